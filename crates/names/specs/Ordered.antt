@@ -1,0 +1,11 @@
+-- The order of names.
+use mathlib.Core.List.{List}
+use mathlib.Core.Path.{_≡_}
+use Prim.Native.Nat.{ℕ, _<_}
+use Rattle.std.specs.declared.cmp.Ordering.{Ordering}
+use Rattle.std.specs.Orderings.{Ranked}
+use Rattle.std.specs.Lexical.{Lex}
+
+-- the first byte that differs decides
+abbrev pub Bytewise : List ℕ → List ℕ → Ordering → Type 0
+Bytewise = Lex (λ (a b : ℕ) (r : Ordering). Ranked r (a < b) (a ≡ b) (b < a))
