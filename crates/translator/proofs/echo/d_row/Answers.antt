@@ -3,7 +3,7 @@ use lib.IntN.{pos}
 use Rattle.names.specs.declared.name.Name.{Name}
 use Rattle.translator.specs.Echoed.{d-name}
 use Rattle.product.specs.declared.row.Row.{Row}
-use Rattle.translator.proofs.Named.{same-name}
+use Rattle.names.proofs.Same.{same-name}
 use Rattle.translator.proofs.echo.d_row.Needs as need
 
 abbrev row-of : Name → Row
