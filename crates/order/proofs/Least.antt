@@ -16,6 +16,7 @@ use Rattle.std.specs.Orderings.{isLt}
 use Rattle.std.specs.Slices.{Ranks}
 use Rattle.std.specs.Keys.{Total}
 use Rattle.std.proofs.shelf.Bests.{ranks-by}
+use Rattle.std.proofs.shelf.Lists.{getD-default}
 use Rattle.std.proofs.shelf.Tests.{true≢false, both-ways, cases-bool, and-parts, not-true, not-from-false, and-left}
 use Rattle.order.specs.declared.Need.{Need}
 use Rattle.order.specs.Dependency.{first, unbeaten, smallest, ready}
@@ -132,3 +133,38 @@ module _ {K : Type 0} (R : K → K → Ordering → Type 0) (keys : List K) (nee
     held-less l t f e =
         let h′ : Held R keys needs done i (Some b) = subst (λ b. Held R keys needs done i b) n h in
         subst (λ b. Held R keys needs done (i + 1) b) (sym e) (l, λ o. takes-less o (ready (o .cmp) keys needs done) keys i b (h′ .1 o) (sym (is o) ∙ t) (λ d. sym (less o d) ∙ f))
+
+module _ {K : Type 0} {R : K → K → Ordering → Type 0} (o : Total R) (test : ℕ → Bool) (keys : List K) where
+  tries : (n b : ℕ) (d : K) → n < length keys → Least o test keys n (Some b) → test n ≡ true → (s : Bool) → lt o (getD keys n d) (getD keys b d) ≡ s → (b′ : Option ℕ) × Least o test keys (n + 1) b′
+  tries n b d l h e true q = (Some n, takes-less o test keys n b h e (λ d′. (λ i. lt o (getD-default keys n d′ d l i) (getD-default keys b d′ d (omega arith) i)) ∙ q))
+  tries n b d l h e false q = (Some b, keeps-less o test keys n b h (λ d′. (λ i. lt o (getD-default keys n d′ d l i) (getD-default keys b d′ d (omega arith) i)) ∙ q))
+
+  step : (n : ℕ) (b : Option ℕ) (d : K) → n < length keys → Least o test keys n b → (t : Bool) → test n ≡ t → (b′ : Option ℕ) × Least o test keys (n + 1) b′
+  step n b d l h false e = (b, passes-over o test keys n b h e)
+  step n None d l h true e = (Some n, takes-first o test keys n h e)
+  step n (Some b) d l h true e = tries n b d l h e (lt o (getD keys n d) (getD keys b d)) refl
+
+  -- the best of the first n items
+  least-exists : (n : ℕ) → K → n ≤ length keys → (b : Option ℕ) × Least o test keys n b
+  least-exists zero d h = (None, λ k l. absurd (omega arith))
+  least-exists (suc n) d h =
+      let before = least-exists n d (omega arith) in
+      let more = step n (before .0) d (omega arith) (before .1) (test n) refl in
+      (more .0, subst (λ k. Least o test keys k (more .0)) (add-one n) (more .1))
+
+-- what the smallest says: it passes, and where there is none nothing passes
+pub smallest-least : {K : Type 0} {R : K → K → Ordering → Type 0} (o : Total R) (test : ℕ → Bool) (keys : List K) → Least o test keys (length keys) (smallest (o .cmp) test keys)
+smallest-least o test [] = λ k l. absurd (omega arith)
+smallest-least o test (x ∷ xs) =
+    let best = least-exists o test (x ∷ xs) (length (x ∷ xs)) x (omega arith) in
+    subst (λ b. Least o test (x ∷ xs) (length (x ∷ xs)) b) (sym (least-is o test (x ∷ xs) (best .0) (best .1))) (best .1)
+
+module _ {K : Type 0} {R : K → K → Ordering → Type 0} (o : Total R) (test : ℕ → Bool) (keys : List K) where
+  at-smallest : (b : Option ℕ) → smallest (o .cmp) test keys ≡ b → Least o test keys (length keys) b
+  at-smallest b e = subst (λ b. Least o test keys (length keys) b) e (smallest-least o test keys)
+
+  pub smallest-passes : (i : ℕ) → smallest (o .cmp) test keys ≡ Some i → (i < length keys) × (test i ≡ true)
+  smallest-passes i e = let h = at-smallest (Some i) e in (h .0, h .1)
+
+  pub none-passes : smallest (o .cmp) test keys ≡ None → (i : ℕ) → i < length keys → test i ≡ false
+  none-passes e = at-smallest None e

@@ -1,12 +1,14 @@
-// The dependency order: of the items whose needs are all placed, the smallest key comes next.
+// The dependency order, for every kind of key that has a total order: of the items whose needs are all placed, the smallest
+// key comes next, and of equal keys the earlier listed. `order` is proved to answer what `ordered` of the specifications
+// says, and that to be the only list that meets the rule. Units are linked in this order, by name.
 ghost use mathlib.Core.Path.{_≡_};
 ghost use Prim.Native.Nat.{_<_};
 ghost use lib.ListN.{length, getD};
 ghost use Rattle.std.specs.Options.{valueOr};
 ghost use Rattle.std.specs.Keys.{Total};
 ghost use Rattle.std.specs.Orderings.{isEq, isLt};
-ghost use Rattle.order.specs.Dependency.{placed, settled, free, ready, next, left, Answers};
-use std::cmp::Ordering;
+ghost use Rattle.order.specs.Dependency.{placed, settled, free, ready, next, left, ordered, Answers};
+ghost use Rattle.order.specs.Law.{Lawful};
 
 // The item at a place needs every item of a key.
 pub struct Need<K> {
@@ -102,8 +104,15 @@ fn pick<K: Ord>(keys: &[K], needs: &[Need<K>], done: &[usize]) -> Option<usize>
     best
 }
 
-// Orders the items: places gets the place of each item in the list of keys, in the order in which they come.
-pub fn order<K: Ord>(keys: &[K], needs: &[Need<K>], places: &mut [usize]) -> Ordered
+// The smallest item that is not placed, or 0 where all are.
+fn smallest_left<K: Ord>(keys: &[K], done: &[usize]) -> usize
+    ensures { λ r. ⌜ ((o : Total (K·Ord .orders)) → r ≡ valueOr (left (o .cmp) (now (keys .entry)) (now (done .entry))) 0) ⌝ }
+{
+    pick(keys, &[], done).unwrap_or(0)
+}
+
+// Writes the place of each item in the list of keys, in the order in which they come.
+fn fill<K: Ord>(keys: &[K], needs: &[Need<K>], places: &mut [usize]) -> Ordered
     ensures { λ r. ⌜ ((o : Total (K·Ord .orders)) → Answers (o .cmp) (now (keys .entry)) (now (needs .entry)) (now (places .entry)) (now (places .exit)) r) ⌝ }
 {
     if places.len() < keys.len() {
@@ -118,9 +127,10 @@ pub fn order<K: Ord>(keys: &[K], needs: &[Need<K>], places: &mut [usize]) -> Ord
     Ordered::All
 }
 
-// The smallest item that is not placed, or 0 where all are.
-fn smallest_left<K: Ord>(keys: &[K], done: &[usize]) -> usize
-    ensures { λ r. ⌜ ((o : Total (K·Ord .orders)) → r ≡ valueOr (left (o .cmp) (now (keys .entry)) (now (done .entry))) 0) ⌝ }
+// Orders the items. Places gets the place of each item in the list of keys, in the order in which they come.
+pub fn order<K: Ord>(keys: &[K], needs: &[Need<K>], places: &mut [usize]) -> Ordered
+    ensures answers { λ r. ⌜ ((o : Total (K·Ord .orders)) → Answers (o .cmp) (now (keys .entry)) (now (needs .entry)) (now (places .entry)) (now (places .exit)) r) ⌝ }
+    ensures lawful { λ _. ⌜ ((o : Total (K·Ord .orders)) → Lawful (o .cmp) (now (keys .entry)) (now (needs .entry)) (ordered (o .cmp) (now (keys .entry)) (now (needs .entry)))) ⌝ }
 {
-    pick(keys, &[], done).unwrap_or(0)
+    fill(keys, needs, places)
 }

@@ -3,7 +3,7 @@ use Prim.Native.Nat.{_-_, _≤_}
 use lib.ListN.{length, take, drop}
 use Rattle.std.specs.Keys.{Total}
 use Rattle.order.specs.Dependency.{placing, ordered}
-use Rattle.order.proofs.order.Given as given
+use Rattle.order.proofs.fill.Given as given
 
 abbrev pub Inv-loop-count : given.InvT-loop-count
 Inv-loop-count g l =
