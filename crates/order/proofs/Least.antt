@@ -29,11 +29,11 @@ first-is p (x ∷ xs) (suc b) d h t f =
     let head : p 0 x ≡ false = f 0 (omega arith) in
     λ i. cond (head i) (Some 0) (mapped suc (rest i))
 
-pub first-none : {X : Type 0} (p : ℕ → X → Bool) (xs : List X) (d : X) → ((k : ℕ) → k < length xs → p k (getD xs k d) ≡ false) → first p xs ≡ None
-first-none p [] d f = refl
-first-none p (x ∷ xs) d f =
-    let rest : first (λ i. p (suc i)) xs ≡ None = first-none (λ i. p (suc i)) xs d (λ k l. f (suc k) (omega arith)) in
-    let head : p 0 x ≡ false = f 0 (omega arith) in
+pub first-none : {X : Type 0} (p : ℕ → X → Bool) (xs : List X) → ((k : ℕ) (d : X) → k < length xs → p k (getD xs k d) ≡ false) → first p xs ≡ None
+first-none p [] f = refl
+first-none p (x ∷ xs) f =
+    let rest : first (λ i. p (suc i)) xs ≡ None = first-none (λ i. p (suc i)) xs (λ k d l. f (suc k) d (omega arith)) in
+    let head : p 0 x ≡ false = f 0 x (omega arith) in
     λ i. cond (head i) (Some 0) (mapped suc (rest i))
 
 module _ {K : Type 0} {R : K → K → Ordering → Type 0} (o : Total R) where
@@ -98,7 +98,7 @@ module _ {K : Type 0} {R : K → K → Ordering → Type 0} (o : Total R) where
   pub least-is : (test : ℕ → Bool) (keys : List K) (b : Option ℕ) → Least test keys (length keys) b → smallest (o .cmp) test keys ≡ b
   least-is test [] None h = refl
   least-is test [] (Some b) h = absurd (omega arith)
-  least-is test (x ∷ xs) None h = first-none (λ i k. test i && unbeaten (o .cmp) test k (x ∷ xs)) (x ∷ xs) x (λ k l. and-left (test k) (unbeaten (o .cmp) test (getD (x ∷ xs) k x) (x ∷ xs)) (h k l))
+  least-is test (x ∷ xs) None h = first-none (λ i k. test i && unbeaten (o .cmp) test k (x ∷ xs)) (x ∷ xs) (λ k d l. and-left (test k) (unbeaten (o .cmp) test (getD (x ∷ xs) k d) (x ∷ xs)) (h k l))
   least-is test (x ∷ xs) (Some b) h =
       first-is (λ i k. test i && unbeaten (o .cmp) test k (x ∷ xs)) (x ∷ xs) b x (h .0)
       (λ i. h .1 i && unbeaten-from test (getD (x ∷ xs) b x) (x ∷ xs) x (λ k l t. h .2 k l x t) i)

@@ -11,6 +11,7 @@ ghost use Rattle.order.specs.Dependency.{placed, settled, free, ready, next, l
 ghost use Rattle.order.specs.Law.{Lawful};
 
 // The item at a place needs every item of a key.
+#[derive(Clone, Copy)]
 pub struct Need<K> {
     pub item: usize,
     pub key: K,
