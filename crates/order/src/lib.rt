@@ -4,7 +4,6 @@
 ghost use mathlib.Core.Path.{_≡_};
 ghost use Prim.Native.Nat.{_<_};
 ghost use lib.ListN.{length, getD};
-ghost use Rattle.std.specs.Options.{valueOr};
 ghost use Rattle.std.specs.Keys.{Total};
 ghost use Rattle.std.specs.Orderings.{isEq, isLt};
 ghost use Rattle.order.specs.Dependency.{placed, settled, free, ready, next, left, ordered, Answers};
@@ -105,11 +104,11 @@ fn pick<K: Ord>(keys: &[K], needs: &[Need<K>], done: &[usize]) -> Option<usize>
     best
 }
 
-// The smallest item that is not placed, or 0 where all are.
-fn smallest_left<K: Ord>(keys: &[K], done: &[usize]) -> usize
-    ensures { λ r. ⌜ ((o : Total (K·Ord .orders)) → r ≡ valueOr (left (o .cmp) (now (keys .entry)) (now (done .entry))) 0) ⌝ }
+// The smallest item that is not placed, if any is left.
+pub fn smallest_left<K: Ord>(keys: &[K], done: &[usize]) -> Option<usize>
+    ensures { λ r. ⌜ ((o : Total (K·Ord .orders)) → r ≡ left (o .cmp) (now (keys .entry)) (now (done .entry))) ⌝ }
 {
-    pick(keys, &[], done).unwrap_or(0)
+    pick(keys, &[], done)
 }
 
 // Writes the place of each item in the list of keys, in the order in which they come.
@@ -121,7 +120,7 @@ fn fill<K: Ord>(keys: &[K], needs: &[Need<K>], places: &mut [usize]) -> Ordered
     }
     for count in 0..keys.len() {
         let Some(item) = pick(keys, needs, &places[0..count]) else {
-            return Ordered::Stuck(smallest_left(keys, &places[0..count]));
+            return Ordered::Stuck(smallest_left(keys, &places[0..count]).unwrap_or(0));
         };
         places[count] = item;
     }

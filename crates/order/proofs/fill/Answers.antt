@@ -26,9 +26,9 @@ pub returns-in-rest : need.returns-in-rest
 returns-in-rest g c =
     let at = front (c .loop-count .count) (c .loop-count .places) in
     λ o. placing-sticks (o .cmp) (c .args .keys .now) (c .args .needs .now) (c .loop-count .count) (c .loop-count .places) (c .args .places .now) (c .loop-count .inv .0 o) (c .loop-count .inv .1)
-    _ (c .smallest-left .result) (c .loop-count-test .taken) (omega arith) (omega arith)
+    _ (c .unwrap-or .result) (c .loop-count-test .taken) (omega arith) (omega arith)
     (c .in-rest .ensures tt o ∙ ap (next (o .cmp) (c .args .keys .now) (c .args .needs .now)) at)
-    (c .smallest-left .ensures o ∙ ap (λ xs. valueOr (left (o .cmp) (c .args .keys .now) xs) 0) at)
+    (c .unwrap-or .ensures ∙ ap (λ l. valueOr l 0) (c .smallest-left .ensures o ∙ ap (left (o .cmp) (c .args .keys .now)) at))
     refl
 
 pub index-places-count : need.index-places-count
