@@ -17,6 +17,7 @@ pub struct Need<K> {
 }
 
 // All items are placed; or none of the others can be, the smallest of which is told; or there are fewer places than items.
+#[derive(Clone, Copy)]
 pub enum Ordered {
     All,
     Stuck(usize),

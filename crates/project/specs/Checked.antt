@@ -1,8 +1,9 @@
 -- Whether a project can be linked: every import a unit, and no circle.
 use mathlib.Core.Bool.{Bool, true, false, cond, not}
 use mathlib.Core.List.{List, [], _∷_, _++_, map}
-use Prim.Native.Nat.{ℕ, zero, suc, _+_}
-use lib.ListN.{length}
+use mathlib.Core.Path.{_≡_}
+use Prim.Native.Nat.{ℕ, zero, suc, _+_, _<_}
+use lib.ListN.{length, take}
 use Rattle.std.specs.declared.option.Option.{Option}
 use Rattle.std.specs.declared.option.Option.the-variants.{Some, None}
 use Rattle.std.specs.declared.result.Result.{Result}
@@ -15,8 +16,15 @@ use Rattle.names.specs.declared.refusal.Refusal.the-variants.{NotAName, SourceT
 use Rattle.names.specs.Ordered.{by-name}
 use Rattle.names.specs.Refusals.{number}
 use Rattle.order.specs.declared.Need.{Need}
+use Rattle.order.specs.declared.Ordered.{Ordered}
+use Rattle.order.specs.declared.Ordered.the-variants.{All, Stuck}
 use Rattle.order.specs.Dependency.{Outcome, all, stuck, first, smallest, ordered}
+use Rattle.project.specs.declared.links.Links.{Links}
 use Rattle.project.specs.Members.{Member, at}
+
+-- the places that a check left
+abbrev pub order-of : Links → List ℕ
+order-of l = take (l .count) (l .places)
 
 -- the first import that is no unit, counted from 0
 abbrev pub lack : List Member → List Name → Option ℕ
@@ -51,6 +59,11 @@ pub data Verdict : Type 0 where
 abbrev pub by-order : List Member → Outcome → Verdict
 by-order vs (all places) = linked places
 by-order vs (stuck places i) = circle (nth (names vs) i)
+
+-- what ordering the units leaves
+abbrev pub Arranged : List Member → List ℕ → Ordered → Outcome → Type 0
+Arranged vs places r (all done) = (r ≡ All) × (take (length vs) places ≡ done)
+Arranged vs places r (stuck done i) = (r ≡ Stuck i) × (i < length vs)
 
 -- the position behind the one counted from 0
 abbrev pub position : Option ℕ → ℕ

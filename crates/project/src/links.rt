@@ -1,4 +1,6 @@
+ghost use mathlib.Core.Path.{_≡_};
 ghost use Prim.Native.Nat.{_≤_};
+ghost use lib.ListN.{length};
 use bounded::Bounded;
 use names::Name;
 use order::Need;
@@ -11,5 +13,6 @@ pub struct Links {
     pub(crate) whole: Bounded<usize, 24>,
     pub(crate) places: [usize; 24],
     pub(crate) count: usize,
+    ghost wide: { length places ≡ 24 },
     ghost few: { count ≤ 24 },
 }
