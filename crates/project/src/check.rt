@@ -88,6 +88,16 @@ fn list_whole(whole: &mut Bounded<usize, 24>, project: &Project)
 }
 
 impl Project {
+    // The name of the unit at a place.
+    pub fn name(&self, i: usize) -> Option<Name>
+        ensures { λ r. ⌜ r ≡ nth (names-of (members (now (self .entry)))) i ⌝ }
+    {
+        if i >= self.count {
+            return None;
+        }
+        Some(self.name_at(i))
+    }
+
     fn name_at(&self, i: usize) -> Name
         requires { ⌜ i < now self .count ⌝ }
         ensures { λ r. ⌜ nth (names-of (members (now (self .entry)))) i ≡ Some r ⌝ }

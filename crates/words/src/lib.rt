@@ -35,7 +35,11 @@ fn pick(line: &[u8], place: usize) -> Option<&[u8]>
             start = i + 1;
         }
     }
-    if start < line.len() && left == 0 { Some(&line[start..]) } else { None }
+    if start < line.len() && left == 0 {
+        Some(&line[start..])
+    } else {
+        None
+    }
 }
 
 // The word at a place, counted from 0.
