@@ -25,13 +25,6 @@ use std::alloc::AllocError;
 use std::alloc::Global;
 
 impl Project {
-    // How many units there are.
-    pub fn len(&self) -> usize
-        ensures { λ r. ⌜ r ≡ length (members (now (self .entry))) ⌝ }
-    {
-        self.count
-    }
-
     // The first of these names that is no unit.
     pub(crate) fn lack(&self, imports: &[Name]) -> Option<usize>
         ensures { λ r. ⌜ r ≡ lack (members (now (self .entry))) (now (imports .entry)) ⌝ }

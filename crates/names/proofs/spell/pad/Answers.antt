@@ -7,7 +7,7 @@ use lib.ListN.{length, drop, replicate}
 use Rattle.std.proofs.shelf.Lists.{drop-replicate}
 use Rattle.names.proofs.Spelled.{padded-is-name}
 use Rattle.names.specs.Spelling.{written-name, padded-name, padded}
-use Rattle.names.proofs.name.Name.from_text.Needs as need
+use Rattle.names.proofs.spell.pad.Needs as need
 
 -- eight zero bytes after the text was written over their front
 written : (ys text : List ℕ) → ys ≡ text → ys ++ drop (length text - 0) (replicate 8 0) ≡ padded text
@@ -19,9 +19,7 @@ written ys text e =
 pub ghost-result : need.ghost-result
 ghost-result c =
     let text = c .args .text .now in
-    (ap padded-name (written (c .copy-from-slice .last .self) text (c .copy-from-slice .ensures .after)) ∙ padded-is-name text (sym (c .if-not-is-written .ensures tt)), tt)
+    (ap padded-name (written (c .copy-from-slice .last .self) text (c .copy-from-slice .ensures .after)) ∙ padded-is-name text (c .pre), tt)
 
 pub returns : need.returns
-returns c =
-    let text = c .args .text .now in
-    (written (c .copy-from-slice .last .self) text (c .copy-from-slice .ensures .after), sym (c .if-not-is-written .ensures tt))
+returns c = written (c .copy-from-slice .last .self) (c .args .text .now) (c .copy-from-slice .ensures .after)
