@@ -1,6 +1,6 @@
 -- A loop that reads so many elements, one a turn: what it has, put before what the rest gives, is what all give.
 use mathlib.Core.Path.{_≡_, refl, sym, ap, _∙_}
-use mathlib.Core.Bool.{true, false, cond}
+use mathlib.Core.Bool.{Bool, true, false, cond}
 use mathlib.Core.List.{List, [], _∷_, _++_, append-assoc, append-nil}
 use Prim.Native.Nat.{ℕ, zero, suc, _+_, _-_, _<_, _≤_}
 use native.Mathlib.Nat.{sub-zero}
@@ -9,7 +9,7 @@ use lib.Dec.{leb}
 use Rattle.std.specs.declared.option.Option.{Option}
 use Rattle.std.specs.declared.option.Option.the-variants.{None, Some}
 use Rattle.std.proofs.shelf.Tests.{le-leb, lt-leb}
-use Rattle.codec.specs.Format.{next, many, many-within}
+use Rattle.codec.specs.Format.{next, passing, many, many-within}
 
 -- elements before those that were read
 abbrev pub onto : {X : Type 0} → List X → Option (List X × List ℕ) → Option (List X × List ℕ)
@@ -53,3 +53,14 @@ module _ {X : Type 0} where
   many-ends n i get bs acc R h inv =
       let e : n - i ≡ 0 = omega arith in
       sym (ap (λ k. onto acc (many k get bs)) e ∙ ap (λ zs. Some (zs, bs)) (append-nil acc)) ∙ inv
+
+-- a test of what was read
+module _ {X : Type 0} (t : X → Bool) (o : Option (X × List ℕ)) (x : X) (bs : List ℕ) (read : Some (x, bs) ≡ o) where
+  after : (b : Bool) → b ≡ t x → passing b x bs ≡ next o (λ y cs. passing (t y) y cs)
+  after b e = ap (λ u. passing u x bs) e ∙ ap (λ p. next p (λ y cs. passing (t y) y cs)) read
+
+  pub tested-yes : true ≡ t x → Some (x, bs) ≡ next o (λ y cs. passing (t y) y cs)
+  tested-yes e = after true e
+
+  pub tested-no : false ≡ t x → None ≡ next o (λ y cs. passing (t y) y cs)
+  tested-no e = after false e

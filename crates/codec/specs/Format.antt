@@ -10,6 +10,8 @@ use mathlib.Core.Path.{_≡_, refl}
 use lib.IntN.{ℤ}
 use mir.Syntax.{w32}
 use mir.Val.{ofZ, toZ}
+use Rattle.std.specs.declared.result.Result.{Result}
+use Rattle.std.specs.declared.result.Result.the-variants.{Ok, Err}
 use Rattle.names.specs.Spelling.{padded-name}
 use Rattle.names.specs.declared.name.Name.{Name}
 use Rattle.product.specs.declared.row.Row.{Row}
@@ -116,3 +118,13 @@ code = listed pair 384 byte
 abbrev pub whole : {X : Type 0} → Option (X × List ℕ) → Option X
 whole None = None
 whole (Some p) = cond (eqb (length (p .1)) 0) (Some (p .0)) None
+
+-- what a reader of whole files holds, where it did not refuse
+abbrev pub got : {X Y : Type 0} → Result (Unit {0}) Y → X → Option X
+got (Ok u) x = Some x
+got (Err e) x = None
+
+-- 0 where there is something, else the number of the refusal
+abbrev pub refusing : {X : Type 0} → ℕ → Option X → ℕ
+refusing n None = n
+refusing n (Some x) = 0
