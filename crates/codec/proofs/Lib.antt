@@ -1,3 +1,4 @@
+pub mod Added
 pub mod Laws
 pub mod Many
 pub mod Named

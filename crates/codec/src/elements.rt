@@ -1,7 +1,12 @@
 // The elements of sections: bytes, pairs of bytes, names, rows and references.
 ghost use Rattle.codec.specs.Format.{byte, pair, name, row, reference};
+use bounded::Bounded;
 use crate::field::Field;
 use crate::input::Input;
+use crate::output::put_byte;
+use crate::output::put_name;
+use crate::output::put_pair;
+use crate::output::put_value;
 use names::Name;
 use product::Reference;
 use product::Row;
@@ -12,6 +17,10 @@ pub impl Field for u8 as ByteField {
     fn read(input: &mut Input<'_>) -> Option<u8> {
         input.byte()
     }
+
+    fn append(&self, out: &mut Bounded<u8, 1896>) {
+        put_byte(*self, out);
+    }
 }
 
 pub impl Field for u16 as PairField {
@@ -20,6 +29,10 @@ pub impl Field for u16 as PairField {
     fn read(input: &mut Input<'_>) -> Option<u16> {
         input.pair()
     }
+
+    fn append(&self, out: &mut Bounded<u8, 1896>) {
+        put_pair(*self, out);
+    }
 }
 
 pub impl Field for Name as NameField {
@@ -27,6 +40,10 @@ pub impl Field for Name as NameField {
 
     fn read(input: &mut Input<'_>) -> Option<Name> {
         input.name()
+    }
+
+    fn append(&self, out: &mut Bounded<u8, 1896>) {
+        put_name(*self, out);
     }
 }
 
@@ -45,6 +62,13 @@ pub impl Field for Row as RowField {
             line,
         })
     }
+
+    fn append(&self, out: &mut Bounded<u8, 1896>) {
+        put_name(self.name, out);
+        put_byte(self.kind, out);
+        put_value(self.value, out);
+        put_pair(self.line, out);
+    }
 }
 
 pub impl Field for Reference as ReferenceField {
@@ -54,5 +78,10 @@ pub impl Field for Reference as ReferenceField {
         let position = input.byte()?;
         let entry = input.byte()?;
         Some(Reference { position, entry })
+    }
+
+    fn append(&self, out: &mut Bounded<u8, 1896>) {
+        put_byte(self.position, out);
+        put_byte(self.entry, out);
     }
 }

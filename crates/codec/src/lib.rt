@@ -3,6 +3,7 @@
 pub mod elements;
 pub mod field;
 pub mod input;
+pub mod output;
 pub mod section;
 
 pub use elements::ByteField;
@@ -15,3 +16,7 @@ pub use input::Input;
 pub use section::read_list;
 pub use section::read_long;
 pub use section::read_short;
+pub use section::append_list;
+pub use section::append_long;
+pub use section::append_short;
+pub use output::put_byte;
