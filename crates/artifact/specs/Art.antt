@@ -1,13 +1,14 @@
 -- Artifacts as parts, and their one writing.
 use mathlib.Core.Bool.{Bool, cond}
 use mathlib.Core.List.{List, [], _∷_, _++_, map}
-use Prim.Native.Nat.{ℕ, _≤_}
+use Prim.Native.Nat.{ℕ, _≤_, _<_}
 use lib.Dec.{ltb, leb}
 use lib.ListN.{length, take}
 use Rattle.std.specs.declared.option.Option.{Option}
 use Rattle.std.specs.declared.option.Option.the-variants.{None, Some}
+use Rattle.std.specs.shelf.Lists.{All}
 use Rattle.bounded.specs.Held.{held}
-use Rattle.product.specs.Parts.{Parts, parts, no-parts, rows}
+use Rattle.product.specs.Parts.{Parts, parts, no-parts, rows, Within, Within-rows}
 use Rattle.product.specs.declared.row.Row.{Row}
 use Rattle.product.specs.declared.row.Reference.{Reference}
 use Rattle.product.specs.declared.interface.Interface.{Interface}
@@ -76,3 +77,11 @@ read bs = whole (artifact .get bs)
 abbrev pub imports-read : Option ℕ → List Interface → List ℕ → Option (List (List Row) × List ℕ)
 imports-read None is bs = None
 imports-read (Some n) is bs = Some (imported (take n is), bs)
+
+-- an artifact within its limits
+pub record Within-art (a : Art) : Type 0 where
+  pub few-source : length (a .source) ≤ 512
+  pub source : All (λ b. b < 256) (a .source)
+  pub few-imports : length (a .imports) ≤ 4
+  pub imports : All Within-rows (a .imports)
+  pub product : Within (length (a .imports)) (a .product)

@@ -4,5 +4,7 @@
 pub mod artifact;
 pub mod fill;
 pub mod read;
+pub mod write;
 
 pub use artifact::Artifact;
+pub use write::longest;

@@ -1,6 +1,6 @@
 -- Records that are added to, piece by piece.
 use mathlib.Core.Path.{_≡_, refl, sym, ap, _∙_}
-use mathlib.Core.List.{List, [], _∷_, _++_, append-assoc, append-nil}
+use mathlib.Core.List.{List, [], _∷_, _++_, map, append-assoc, append-nil}
 use Prim.Native.Nat.{ℕ, _+_, _<_, _≤_}
 use native.Mathlib.Omega.{arith}
 use lib.ListN.{length, getD, take, length-append}
@@ -28,3 +28,7 @@ each-push put (y ∷ ys) x = ap (λ bs. put y ++ bs) (each-push put ys x) ∙ sy
 -- the bytes of one element more
 pub each-more : {X : Type 0} (put : X → List ℕ) (xs : List X) (i : ℕ) (d : X) → i < length xs → each put (take i xs) ++ put (getD xs i d) ≡ each put (take (i + 1) xs)
 each-more put xs i d h = sym (ap (each put) (take-more xs i d h) ∙ each-push put (take i xs) (getD xs i d))
+
+pub each-map : {X Y : Type 0} (put : Y → List ℕ) (f : X → Y) (xs : List X) → each (λ x. put (f x)) xs ≡ each put (map f xs)
+each-map put f [] = refl
+each-map put f (x ∷ xs) = ap (λ bs. put (f x) ++ bs) (each-map put f xs)

@@ -138,7 +138,7 @@ value-only bs z rest e =
 pub value-lawful : Lawful value (SFits w32)
 value-lawful = record { back = value-back; only = value-only }
 
-name-length : (n : Name) → length (n .bytes) ≡ 8
+pub name-length : (n : Name) → length (n .bytes) ≡ 8
 name-length n = padded-eight (n .bytes) (n .valid)
 
 name-back : (n : Name) → (rest : List ℕ) → name .get (name .put n ++ rest) ≡ Some (n, rest)
@@ -277,3 +277,34 @@ module _ {X : Type 0} (f : Format X) (P : X → Type 0) (law : Lawful f P) where
 
     pub tested-lawful : Lawful (tested t f) (λ x. (t x ≡ true) × P x)
     tested-lawful = record { back = tested-back; only = tested-only }
+
+-- the same law, said of the same values in other words
+pub lawful-as : {X : Type 0} (f : Format X) (P Q : X → Type 0) → Lawful f P → ((x : X) → Q x → P x) → ((x : X) → P x → Q x) → Lawful f Q
+lawful-as f P Q law to from =
+    record { back = λ x h rest. law .back x (to x h) rest; only = λ bs x rest e. let o = law .only bs x rest e in (o .0, from x (o .1)) }
+
+-- what is read to the end
+module _ {X : Type 0} (f : Format X) (P : X → Type 0) (law : Lawful f P) where
+  none-left : (xs : List ℕ) → length xs ≡ 0 → xs ≡ []
+  none-left [] e = refl
+  none-left (x ∷ xs) e = absurd (omega arith)
+
+  at-end : (y x : X) (cs : List ℕ) (t : Bool) → eqb (length cs) 0 ≡ t → cond t (Some y) None ≡ Some x → _≡_ {A = Option (X × List ℕ)} (Some (y, cs)) (Some (x, []))
+  at-end y x cs true h e = let same : y ≡ x = cc in λ i. Some (same i, none-left cs (eqb-true (length cs) 0 h) i)
+  at-end y x cs false h e = let z : _≡_ {A = ℕ} 0 1 = cc in absurd (omega arith)
+
+  whole-some : (o : Option (X × List ℕ)) (x : X) → whole o ≡ Some x → _≡_ {A = Option (X × List ℕ)} o (Some (x, []))
+  whole-some None x e = let z : _≡_ {A = ℕ} 0 1 = cc in absurd (omega arith)
+  whole-some (Some p) x e = at-end (p .0) x (p .1) (eqb (length (p .1)) 0) refl e
+
+  pub whole-back : (x : X) → P x → whole (f .get (f .put x)) ≡ Some x
+  whole-back x h = ap (λ bs. whole (f .get bs)) (sym (append-nil (f .put x))) ∙ ap whole (law .back x h [])
+
+  pub whole-only : (bs : List ℕ) (x : X) → whole (f .get bs) ≡ Some x → (f .put x ≡ bs) × P x
+  whole-only bs x e =
+      let o = law .only bs x [] (whole-some (f .get bs) x e) in
+      (sym (o .0 ∙ append-nil (f .put x)), o .1)
+
+  -- one writing of each value
+  pub one-writing : (x y : X) → P x → P y → f .put x ≡ f .put y → x ≡ y
+  one-writing x y h k e = let s : Some x ≡ Some y = sym (whole-back x h) ∙ ap (λ bs. whole (f .get bs)) e ∙ whole-back y k in cc
