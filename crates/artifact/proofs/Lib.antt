@@ -1,3 +1,4 @@
 pub mod Laws
 pub mod Rounds
 pub mod Sizes
+pub mod Slots

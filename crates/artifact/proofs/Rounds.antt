@@ -13,5 +13,5 @@ round-trip =
       within = λ bs a e. whole-only artifact Within-art artifact-lawful bs a e .1;
       one-writing = one-writing artifact Within-art artifact-lawful;
       longest = λ a h. short-fits a (within-short a h);
-      reached = (full, full-within, full-long)
+      reached = (full, full-within, full-long);
     }

@@ -62,8 +62,13 @@ short-fits a h =
 pub within-short : (a : Art) → Within-art a → Short a
 within-short a h =
     record {
-      few-source = h .few-source; few-imports = h .few-imports; imports = all-weaker Within-rows (λ rs. length rs ≤ 12) (λ rs k. k .0) (a .imports) (h .imports);
-      few-rows = h .product .interface .0; few-code = h .product .few-code; few-entries = h .product .few-entries; few-references = h .product .few-references
+      few-source = h .few-source;
+      few-imports = h .few-imports;
+      imports = all-weaker Within-rows (λ rs. length rs ≤ 12) (λ rs k. k .0) (a .imports) (h .imports);
+      few-rows = h .product .interface .0;
+      few-code = h .product .few-code;
+      few-entries = h .product .few-entries;
+      few-references = h .product .few-references;
     }
 
 all-same : {X : Type 0} (P : X → Type 0) (x : X) → P x → (n : ℕ) → All P (replicate n x)
@@ -84,8 +89,9 @@ some-rows = replicate 12 some-row
 abbrev full-of : List Row → Row → Reference → Art
 full-of rs r x =
     record {
-      source = replicate 512 0; imports = replicate 4 rs;
-      product = record { interface = replicate 12 r; code = replicate 384 0; entries = replicate 12 0; references = replicate 32 x }
+      source = replicate 512 0;
+      imports = replicate 4 rs;
+      product = record { interface = replicate 12 r; code = replicate 384 0; entries = replicate 12 0; references = replicate 32 x };
     }
 
 sound : Sound-row some-row
@@ -103,15 +109,20 @@ pub full-within : Within-art full
 unfolding full some-reference
 full-within =
     record {
-      few-source = omega (arith, length-replicate {A = ℕ} 512 0); source = all-same (λ b. b < 256) 0 (lit< tt) 512;
-      few-imports = omega (arith, length-replicate 4 some-rows); imports = all-same Within-rows some-rows sound-rows 4;
+      few-source = omega (arith, length-replicate {A = ℕ} 512 0);
+      source = all-same (λ b. b < 256) 0 (lit< tt) 512;
+      few-imports = omega (arith, length-replicate 4 some-rows);
+      imports = all-same Within-rows some-rows sound-rows 4;
       product =
-        record {
-          interface = (omega (arith, length-replicate 12 some-row), all-same Sound-row some-row sound 12);
-          few-code = omega (arith, length-replicate {A = ℕ} 384 0); code = all-same (λ b. b < 256) 0 (lit< tt) 384;
-          few-entries = omega (arith, length-replicate {A = ℕ} 12 0); entries = all-same (λ e. e < length (replicate {A = ℕ} 384 0)) 0 (omega (arith, length-replicate {A = ℕ} 384 0)) 12;
-          few-references = omega (arith, length-replicate 32 some-reference); references = all-same (Sound-reference (length (replicate 4 some-rows))) some-reference (omega arith, lit< tt) 32
-        }
+          record {
+            interface = (omega (arith, length-replicate 12 some-row), all-same Sound-row some-row sound 12);
+            few-code = omega (arith, length-replicate {A = ℕ} 384 0);
+            code = all-same (λ b. b < 256) 0 (lit< tt) 384;
+            few-entries = omega (arith, length-replicate {A = ℕ} 12 0);
+            entries = all-same (λ e. e < length (replicate {A = ℕ} 384 0)) 0 (omega (arith, length-replicate {A = ℕ} 384 0)) 12;
+            few-references = omega (arith, length-replicate 32 some-reference);
+            references = all-same (Sound-reference (length (replicate 4 some-rows))) some-reference (omega arith, lit< tt) 32;
+          };
     }
 
 each-same : {X : Type 0} (put : X → List ℕ) (x : X) (n : ℕ) → length (each put (replicate n x)) ≡ n * length (put x)

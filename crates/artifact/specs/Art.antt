@@ -33,6 +33,10 @@ art a = record { source = held (a .source); imports = imported (take (a .count) 
 abbrev pub no-art : Art
 no-art = record { source = []; imports = []; product = no-parts }
 
+-- an artifact with one import more
+abbrev pub with-import : Art → List Row → Art
+with-import a rs = record { source = a .source; imports = a .imports ++ rs ∷ []; product = a .product }
+
 -- the source: at most 512 bytes behind a count of two bytes
 abbrev pub source : Format (List ℕ)
 source = listed pair 512 byte

@@ -6,7 +6,7 @@ ghost use lib.Dec.{ltb};
 ghost use lib.ListN.{length};
 ghost use Rattle.std.specs.Vec.{made};
 ghost use Rattle.product.specs.Parts.{rows, parts};
-ghost use Rattle.artifact.specs.Art.{art, no-art, imported};
+ghost use Rattle.artifact.specs.Art.{art, no-art, imported, with-import};
 use crate::artifact::Artifact;
 use bounded::Bounded;
 use product::Interface;
@@ -48,5 +48,19 @@ impl Artifact {
         self.source.clear();
         self.count = 0;
         self.product.clear();
+    }
+
+    // One more interface of an import; false, and nothing done, where four stand.
+    pub fn add_import(&mut self, from: &Interface) -> bool
+        ensures fits { λ r. ⌜ r ≡ ltb (length (art (now (self .entry)) .imports)) 4 ⌝ }
+        ensures after { λ r. ⌜ art (now (self .exit)) ≡ cond r (with-import (art (now (self .entry))) (rows (now (from .entry)))) (art (now (self .entry))) ⌝ }
+    {
+        let at = self.count;
+        if at >= 4 {
+            return false;
+        }
+        self.imports[at].copy_from(from);
+        self.count = at + 1;
+        true
     }
 }

@@ -3,12 +3,13 @@ ghost use mathlib.Core.Path.{_≡_};
 ghost use Prim.Native.Nat.{_≤_};
 ghost use lib.Dec.{ltb, leb};
 ghost use Rattle.std.specs.Options.{Cases as BySome};
+ghost use Rattle.std.specs.Results.{Cases};
 ghost use lib.ListN.{length};
 ghost use Rattle.bounded.specs.Held.{held};
 ghost use Rattle.product.specs.Parts.{parts};
 ghost use Rattle.names.specs.Refusals.{answer};
 ghost use Rattle.codec.specs.Format.{left, filled, every, byte, interface, listed, got, refusing};
-ghost use Rattle.artifact.specs.Art.{art, artifact, imports, product, entries, references, imports-read, read};
+ghost use Rattle.artifact.specs.Art.{art, artifact, imports, product, entries, references, imports-read, read, artifact-bytes, Within-art};
 use crate::artifact::Artifact;
 use bounded::Bounded;
 use codec::ByteField;
@@ -116,6 +117,7 @@ impl Artifact {
     // Reads the artifact that the bytes are, in place of what is held; where they are none, what is held then is any artifact.
     pub fn read(&mut self, bytes: &[u8]) -> Result<(), Refusal>
         ensures parts { λ r. ⌜ got r (art (now (self .exit))) ≡ read (now (bytes .entry)) ⌝ }
+        ensures back { λ r. ⌜ Cases r (λ _. (artifact-bytes (art (now (self .exit))) ≡ now (bytes .entry)) × Within-art (art (now (self .exit)))) (λ _. Unit {0}) ⌝ }
         ensures number { λ r. ⌜ answer r ≡ refusing 55 (read (now (bytes .entry))) ⌝ }
     {
         let mut input = Input { rest: bytes };

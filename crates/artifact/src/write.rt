@@ -7,6 +7,7 @@ ghost use Rattle.codec.specs.Adding.{Adds};
 ghost use Rattle.codec.specs.Format.{each, interface};
 ghost use Rattle.artifact.specs.Art.{art, imported, product, artifact-bytes, read, Within-art};
 ghost use Rattle.artifact.specs.Round.{Round-trip};
+use crate::artifact::Artifact;
 use bounded::Bounded;
 use codec::ByteField;
 use codec::PairField;
@@ -15,7 +16,6 @@ use codec::RowField;
 use codec::append_long;
 use codec::append_short;
 use codec::put_byte;
-use crate::artifact::Artifact;
 use product::Interface;
 use product::Product;
 

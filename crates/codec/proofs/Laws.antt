@@ -129,11 +129,12 @@ value-only bs z rest e =
     let small : h * 65536 + l < 2 ^ 32 = omega arith in
     let m : h * 65536 + l ≡ ofZ w32 z = sym (ofZ-toZ w32 (h * 65536 + l) small) ∙ ap (ofZ w32) n in
     let high : h ≡ ofZ w32 z / 65536 = omega arith in
-    let low : l ≡ ofZ w32 z % 65536 = omega arith in
-    ( glue bs (pair .put (ofZ w32 z / 65536)) (p .1) (pair .put (ofZ w32 z % 65536)) rest
-        (p .2 ∙ ap (λ k. pair .put k ++ p .1) high)
-        (q .2 ∙ (λ i. pair .put (low i) ++ some-rest (toZ w32 (h * 65536 + l)) z (q .1) rest (q .4) i))
-    , subst (SFits w32) n (sfits-toZ (record { fits = small })))
+    let low : l ≡ ofZ w32 z % 65536 = omega arith in (
+      glue bs (pair .put (ofZ w32 z / 65536)) (p .1) (pair .put (ofZ w32 z % 65536)) rest
+          (p .2 ∙ ap (λ k. pair .put k ++ p .1) high)
+          (q .2 ∙ (λ i. pair .put (low i) ++ some-rest (toZ w32 (h * 65536 + l)) z (q .1) rest (q .4) i)),
+      subst (SFits w32) n (sfits-toZ (record { fits = small })),
+    )
 
 pub value-lawful : Lawful value (SFits w32)
 value-lawful = record { back = value-back; only = value-only }

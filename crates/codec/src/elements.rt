@@ -1,12 +1,12 @@
 // The elements of sections: bytes, pairs of bytes, names, rows and references.
 ghost use Rattle.codec.specs.Format.{byte, pair, name, row, reference};
-use bounded::Bounded;
 use crate::field::Field;
 use crate::input::Input;
 use crate::output::put_byte;
 use crate::output::put_name;
 use crate::output::put_pair;
 use crate::output::put_value;
+use bounded::Bounded;
 use names::Name;
 use product::Reference;
 use product::Row;

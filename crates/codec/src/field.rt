@@ -3,8 +3,8 @@ ghost use mathlib.Core.Path.{_≡_};
 ghost use Rattle.codec.specs.Format.{Format, left, read-as};
 ghost use Rattle.bounded.specs.Held.{held};
 ghost use Rattle.codec.specs.Adding.{Adds};
-use bounded::Bounded;
 use crate::input::Input;
+use bounded::Bounded;
 
 pub trait Field: Sized {
     // how the element stands in bytes

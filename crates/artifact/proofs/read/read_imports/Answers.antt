@@ -6,7 +6,6 @@ use lib.ListN.{length, take, set, length-set}
 use Rattle.std.specs.Options.{Cases}
 use Rattle.std.specs.declared.option.Option.{Option}
 use Rattle.std.specs.declared.option.Option.the-variants.{None, Some}
-use Rattle.std.proofs.shelf.Lists.{take-more-set, map-push}
 use Rattle.std.proofs.shelf.Results.{cases-from-none}
 use Rattle.product.specs.Parts.{rows}
 use Rattle.product.specs.declared.row.Row.{Row}
@@ -14,6 +13,7 @@ use Rattle.product.specs.declared.interface.Interface.{Interface}
 use Rattle.codec.specs.Format.{left, next, many, many-within, interface, get-byte}
 use Rattle.codec.proofs.Many.{onto, within-no, many-starts, many-goes, many-stops, many-ends}
 use Rattle.artifact.specs.Art.{imported, imports-read}
+use Rattle.artifact.proofs.Slots.{one-more}
 use Rattle.artifact.proofs.read.read_imports.Needs as need
 
 -- what the interfaces give is what the section gives, behind its count
@@ -21,10 +21,6 @@ counted : (n b : ℕ) (bs cs : List ℕ) (R : Option (List (List Row) × List �
     R ≡ many-within 4 n (interface .get) cs → R ≡ next (get-byte bs) (λ m ds. many-within 4 m (interface .get) ds)
 counted n b bs cs R e f r =
     r ∙ ap (λ m. many-within 4 m (interface .get) cs) e ∙ ap (λ o. next o (λ m ds. many-within 4 m (interface .get) ds)) f
-
--- the slot at place k was filled
-one-more : (slots : List Interface) (k : ℕ) (s : Interface) → k < length slots → imported (take (k + 1) (set slots k s)) ≡ imported (take k slots) ++ rows s ∷ []
-one-more slots k s h = ap imported (take-more-set slots k s h) ∙ map-push rows (take k slots) s
 
 pub loop-k-holds : need.loop-k-holds
 loop-k-holds c =

@@ -18,6 +18,7 @@ use Rattle.artifact.specs.Art.{Art, art, imported, source, product, artifact-b
 use Rattle.artifact.specs.declared.artifact.Artifact.{Artifact}
 use Rattle.artifact.proofs.Rounds.{round-trip}
 use Rattle.artifact.proofs.Sizes.{Short, short-fits}
+use Rattle.artifact.proofs.Slots.{count-is}
 use Rattle.artifact.proofs.artifact.Artifact.write.Needs as need
 
 all-of : (is : List Interface) → All (λ i. length (rows i) ≤ 12) is
@@ -31,11 +32,11 @@ is-short a =
       few-source = held-few (a .source);
       few-imports = omega (arith, length-map (take (a .count) (a .imports)) rows, length-take (a .count) (a .imports), a .few);
       imports = all-map (λ rs. length rs ≤ 12) rows (take (a .count) (a .imports)) (all-of (take (a .count) (a .imports)));
-      few-rows = held-few (a .product .interface .list); few-code = held-few (a .product .code); few-entries = held-few (a .product .entries); few-references = held-few (a .product .references)
+      few-rows = held-few (a .product .interface .list);
+      few-code = held-few (a .product .code);
+      few-entries = held-few (a .product .entries);
+      few-references = held-few (a .product .references);
     }
-
-count-is : (a : Artifact) → a .count ≡ length (imported (take (a .count) (a .imports)))
-count-is a = sym (length-map (take (a .count) (a .imports)) rows ∙ length-take (a .count) (a .imports) ∙ omega (arith, a .few, a .four))
 
 -- the sections one behind the other, from an empty record on
 joined : (a : Art) (n : ℕ) (is : List (List Row)) (u v w x y : List ℕ) → u ≡ [] → n ≡ length (a .imports) → is ≡ a .imports → length (artifact-bytes a) ≤ 1896 →
