@@ -9,7 +9,7 @@ use lib.Dec.{leb}
 use Rattle.std.specs.declared.option.Option.{Option}
 use Rattle.std.specs.declared.option.Option.the-variants.{None, Some}
 use Rattle.std.proofs.shelf.Tests.{le-leb, lt-leb}
-use Rattle.codec.specs.Format.{next, passing, many, many-within}
+use Rattle.codec.specs.Format.{next, passing, many, many-within, filled}
 
 -- elements before those that were read
 abbrev pub onto : {X : Type 0} → List X → Option (List X × List ℕ) → Option (List X × List ℕ)
@@ -17,11 +17,11 @@ onto acc None = None
 onto acc (Some p) = Some (acc ++ p .0, p .1)
 
 module _ {X : Type 0} where
-  onto-none : (o : Option (List X × List ℕ)) → onto [] o ≡ o
+  pub onto-none : (o : Option (List X × List ℕ)) → onto [] o ≡ o
   onto-none None = refl
   onto-none (Some p) = refl
 
-  onto-one : (acc : List X) (x : X) (o : Option (List X × List ℕ)) → onto (acc ++ x ∷ []) o ≡ onto acc (next o (λ xs ds. Some (x ∷ xs, ds)))
+  pub onto-one : (acc : List X) (x : X) (o : Option (List X × List ℕ)) → onto (acc ++ x ∷ []) o ≡ onto acc (next o (λ xs ds. Some (x ∷ xs, ds)))
   onto-one acc x None = refl
   onto-one acc x (Some p) = ap (λ zs. Some (zs, p .1)) (append-assoc acc (x ∷ []) (p .0))
 
@@ -64,3 +64,7 @@ module _ {X : Type 0} (t : X → Bool) (o : Option (X × List ℕ)) (x : X) (bs 
 
   pub tested-no : false ≡ t x → None ≡ next o (λ y cs. passing (t y) y cs)
   tested-no e = after false e
+
+-- a reader that stopped, whatever it holds
+pub refused : {X : Type 0} (r : Option (Unit {0})) (x : X) (bs : List ℕ) (R : Option (X × List ℕ)) → r ≡ None → None ≡ R → filled r x bs ≡ R
+refused r x bs R e f = ap (λ o. filled o x bs) e ∙ f

@@ -128,3 +128,8 @@ got (Err e) x = None
 abbrev pub refusing : {X : Type 0} → ℕ → Option X → ℕ
 refusing n None = n
 refusing n (Some x) = 0
+
+-- whether a byte stands first
+abbrev pub begins : ℕ → List ℕ → Bool
+begins x [] = false
+begins x (b ∷ bs) = eqb b x

@@ -1,6 +1,8 @@
 // What is left to read, and the readers of single elements.
+ghost use mathlib.Core.Bool.{cond};
 ghost use mathlib.Core.Path.{_≡_};
-ghost use Rattle.codec.specs.Format.{left, read-as, byte, pair, value, name};
+ghost use lib.ListN.{drop};
+ghost use Rattle.codec.specs.Format.{left, read-as, begins, byte, pair, value, name};
 use names::Name;
 
 #[derive(Drop)]
@@ -52,5 +54,17 @@ impl Input<'_> {
             Ok(name) => Some(name),
             Err(_) => None,
         }
+    }
+
+    // Takes a byte where it stands first in what is left, and says whether it did.
+    pub fn skip(&mut self, b: u8) -> bool
+        ensures found { λ r. ⌜ r ≡ begins b (left (now (self .entry))) ⌝ }
+        ensures after { λ r. ⌜ left (now (self .exit)) ≡ cond r (drop 1 (left (now (self .entry)))) (left (now (self .entry))) ⌝ }
+    {
+        if self.rest.is_empty() || self.rest[0] != b {
+            return false;
+        }
+        self.rest = &self.rest[1..];
+        true
     }
 }
