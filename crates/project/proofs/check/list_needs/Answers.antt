@@ -5,7 +5,7 @@ use native.Mathlib.Omega.{arith}
 use lib.ListN.{length, take, getD, length-append}
 use Rattle.std.proofs.shelf.Lists.{take-all, length-map, length-take-le}
 use Rattle.bounded.specs.Held.{held}
-use Rattle.bounded.proofs.Sizes.{held-few}
+use Rattle.bounded.proofs.Few.{held-few}
 use Rattle.names.specs.declared.name.Name.{Name}
 use Rattle.project.specs.Members.{Member, member, members}
 use Rattle.project.specs.Checked.{needs, needs-for}

@@ -11,7 +11,7 @@ use Rattle.std.specs.Options.{isSome}
 use Rattle.std.specs.shelf.Maps.{nth}
 use Rattle.names.specs.declared.name.Name.{Name}
 use Rattle.bounded.specs.Held.{held}
-use Rattle.bounded.proofs.Sizes.{held-few}
+use Rattle.bounded.proofs.Few.{held-few}
 use Rattle.order.proofs.Least.{first-below}
 use Rattle.project.specs.declared.unit.Unit.{Unit}
 use Rattle.project.specs.declared.whole.Project.{Project}
