@@ -6,6 +6,7 @@ ghost use Prim.Native.Nat.{ℕ, _+_, _≤_, _/_, _%_};
 ghost use lib.Dec.{leb};
 ghost use lib.ListN.{length, set};
 ghost use Rattle.std.specs.shelf.Text.{sameBytes};
+ghost use Rattle.std.specs.Of.Vec.{vec-items, vec-len};
 ghost use Rattle.std.specs.Vec.{made};
 ghost use Rattle.std.specs.declared.option.Option.the-variants.{Some};
 ghost use Rattle.names.specs.Refusals.{answer};
@@ -100,7 +101,7 @@ fn header(name: Name, length: u16) -> [u8; HEADER]
 }
 
 // Lays a live record at the place; false, and nothing done, where the record is too long or the area too short.
-pub fn write(area: &mut [u8], at: usize, name: Name, content: &[u8]) -> bool
+fn lay(area: &mut [u8], at: usize, name: Name, content: &[u8]) -> bool
     ensures fits { λ r. ⌜ r ≡ (leb (length (now (content .entry))) longest && leb (at + (header-size + length (now (content .entry)))) (length (now (area .entry)))) ⌝ }
     ensures after { λ r. ⌜ now (area .exit) ≡ cond r (written (now (area .entry)) at (name .bytes) (now (content .entry))) (now (area .entry)) ⌝ }
 {
@@ -114,9 +115,19 @@ pub fn write(area: &mut [u8], at: usize, name: Name, content: &[u8]) -> bool
     true
 }
 
+// Lays a live record at the place; false, and nothing done, where the record is too long or the area too short.
+pub fn write(area: &mut Vec<u8>, at: usize, name: Name, content: &[u8]) -> bool
+    ensures fits { λ r. ⌜ r ≡ (leb (length (now (content .entry))) longest && leb (at + (header-size + length (now (content .entry)))) (vec-len (now (area .entry)))) ⌝ }
+    ensures after { λ r. ⌜ vec-items (now (area .exit)) ≡ cond r (written (vec-items (now (area .entry))) at (name .bytes) (now (content .entry))) (vec-items (now (area .entry))) ⌝ }
+    ensures len { λ _. ⌜ vec-len (now (area .exit)) ≡ vec-len (now (area .entry)) ⌝ }
+{
+    lay(area.as_mut_slice(), at, name, content)
+}
+
 // Marks the record at the place dead.
-pub fn bury(area: &mut [u8], at: usize)
-    ensures { λ _. ⌜ now (area .exit) ≡ set (now (area .entry)) at 0 ⌝ }
+pub fn bury(area: &mut Vec<u8>, at: usize)
+    ensures after { λ _. ⌜ vec-items (now (area .exit)) ≡ set (vec-items (now (area .entry))) at 0 ⌝ }
+    ensures len { λ _. ⌜ vec-len (now (area .exit)) ≡ vec-len (now (area .entry)) ⌝ }
 {
     if at < area.len() {
         area[at] = DEAD;

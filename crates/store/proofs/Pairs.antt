@@ -11,7 +11,7 @@ use Rattle.std.specs.shelf.Text.{sameBytes}
 use Rattle.std.specs.declared.option.Option.{Option}
 use Rattle.std.specs.declared.option.Option.the-variants.{Some, None}
 use Rattle.std.proofs.shelf.Equals.{sameBytes-decides}
-use Rattle.std.proofs.shelf.Tests.{true≢false, cases-bool, and-parts, and-from, not-true, not-from-false}
+use Rattle.std.proofs.shelf.Tests.{true≢false, cases-bool, and-parts, and-from, not-true, not-from-false, or-parts}
 use Rattle.store.specs.Pairs.{Pair, pair, lookup, has, without, once, Same-pairs}
 
 -- a proof by the two values of a test
@@ -151,3 +151,15 @@ once-in (x ∷ L) R p h n =
     let rest : has (L ++ R) (p .key) ≡ false = simp e at n in
     let free : has (L ++ p ∷ R) (x .key) ≡ false = has-in L R p (x .key) (not-true (has (L ++ R) (x .key)) (parts .0)) (same-flip (x .key) (p .key) e) in
     and-from (not (has (L ++ p ∷ R) (x .key))) (once (L ++ p ∷ R)) (not-from-false (has (L ++ p ∷ R) (x .key)) free) (once-in L R p (parts .1) rest))
+
+-- a record put where the old one of its name stood
+pub put-over : (L R : List Pair) (k b o : List ℕ) → has L k ≡ false → once (L ++ pair k o ∷ R) ≡ true → Same-pairs (L ++ pair k b ∷ R) (pair k b ∷ without k (L ++ pair k o ∷ R)) × (once (L ++ pair k b ∷ R) ≡ true)
+put-over L R k b o h u =
+    let out = once-out L R (pair k o) u in
+    (subst (λ (x : List Pair). Same-pairs (L ++ pair k b ∷ R) (pair k b ∷ x)) (sym (without-at L R k o h)) (moved L R k b h), once-in L R (pair k b) (out .0) (out .1))
+
+-- a record put under a new name
+pub put-new : (L R : List Pair) (k b : List ℕ) → has (L ++ R) k ≡ false → once (L ++ R) ≡ true → Same-pairs (L ++ pair k b ∷ R) (pair k b ∷ without k (L ++ R)) × (once (L ++ pair k b ∷ R) ≡ true)
+put-new L R k b h u =
+    let front : has L k ≡ false = or-parts (has L k) (has R k) (sym (has-append L R k) ∙ h) .0 in
+    (subst (λ (x : List Pair). Same-pairs (L ++ pair k b ∷ R) (pair k b ∷ x)) (sym (without-none k (L ++ R) h)) (moved L R k b front), once-in L R (pair k b) u h)

@@ -2,5 +2,5 @@ use borrow.Author.Needs.{needs}
 use Rattle.std.proofs.shelf.Lists.{set-past}
 use Rattle.area.proofs.record_at.bury.Needs as need
 
-pub returns-else-at-area : need.returns-else-at-area
-returns-else-at-area c = search (needs, set-past)
+pub returns-else-at-len : need.returns-else-at-len
+returns-else-at-len c = search (needs, set-past)
