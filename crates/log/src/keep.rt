@@ -7,7 +7,7 @@ ghost use lib.Dec.{eqb};
 ghost use lib.ListN.{length};
 ghost use Rattle.std.specs.Of.Vec.{vec-items, vec-len};
 ghost use Rattle.names.specs.Refusals.{answer};
-ghost use Rattle.store.specs.Says.{Put-says, Get-says, Drop-says};
+ghost use Rattle.store.specs.Says.{Put-says, Get-says, Drop-says, Within};
 ghost use Rattle.area.specs.Layout.{longest};
 ghost use Rattle.log.specs.Chain.{marked, log-put};
 ghost use Rattle.log.specs.Kept.{records-of, pairs-of};
@@ -57,6 +57,7 @@ pub impl Store for LogStore as LogStoreStore {
 
     fn get(&mut self, name: Name, buffer: &mut [u8]) -> Result<Option<usize>, Refusal>
         ensures says { λ r. ⌜ Get-says (pairs-of (now (self .entry))) (pairs-of (now (self .exit))) (name .bytes) (now (buffer .entry)) (now (buffer .exit)) r ⌝ }
+        ensures within { λ r. ⌜ Within r (length (now (buffer .entry))) ⌝ }
         ensures rows { λ _. ⌜ now (self .exit) .rows ≡ now (self .entry) .rows ⌝ }
         ensures lie { λ _. ⌜ records-of (now (self .exit)) ≡ records-of (now (self .entry)) ⌝ }
     {

@@ -2,10 +2,10 @@
 use mathlib.Core.Path.{_≡_}
 use mathlib.Core.Bool.{Bool, true, false, cond, _||_}
 use mathlib.Core.List.{List, [], _∷_, _++_}
-use Prim.Native.Nat.{ℕ}
+use Prim.Native.Nat.{ℕ, _≤_}
 use lib.Dec.{eqb, ltb, leb}
 use lib.ListN.{length, drop}
-use Rattle.std.specs.Options.{mapped}
+use Rattle.std.specs.Options.{mapped, Cases}
 use Rattle.std.specs.Vec.{made}
 use Rattle.std.specs.declared.option.Option.{Option}
 use Rattle.std.specs.declared.option.Option.the-variants.{Some, None}
@@ -43,6 +43,10 @@ pub record Get-says (before after : List Pair) (q buffer buffer′ : List ℕ) (
   pub told : made r (λ n. n ≡ mapped length (lookup before q))
   pub filled : buffer′ ≡ get-buffer (lookup before q) buffer
   pub pairs : after ≡ before
+
+-- a length that a get answers lies within the buffer
+abbrev pub Within : Result (Option ℕ) Refusal → ℕ → Type 0
+Within r room = made r (λ o. Cases o (Unit {0}) (λ n. n ≤ room))
 
 -- a drop of a name: whether it had a record, which is gone
 pub record Drop-says (before after : List Pair) (q : List ℕ) (r : Bool) : Type 0 where

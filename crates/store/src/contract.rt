@@ -6,7 +6,7 @@ ghost use Prim.Native.Nat.{ℕ, _≤_};
 ghost use lib.ListN.{length};
 ghost use Rattle.names.specs.Refusals.{answer};
 ghost use Rattle.store.specs.Pairs.{Pair, once};
-ghost use Rattle.store.specs.Says.{Put-says, Get-says, Drop-says};
+ghost use Rattle.store.specs.Says.{Put-says, Get-says, Drop-says, Within};
 use names::Name;
 use names::Refusal;
 
@@ -45,6 +45,7 @@ pub trait Store {
     // The record of the name at the buffer's start, and its length; none if there is none; refused (43) if the buffer is shorter.
     fn get(&mut self, name: Name, buffer: &mut [u8]) -> Result<Option<usize>, Refusal>
         ensures says { λ r. ⌜ (sound (now (self .entry)) → Get-says (pairs (now (self .entry))) (pairs (now (self .exit))) (name .bytes) (now (buffer .entry)) (now (buffer .exit)) r) ⌝ }
+        ensures within { λ r. ⌜ Within r (length (now (buffer .entry))) ⌝ }
         ensures stays { λ _. ⌜ (sound (now (self .entry)) → sound (now (self .exit))) ⌝ }
         ensures rows { λ _. ⌜ rows (now (self .exit)) ≡ rows (now (self .entry)) ⌝ };
 
