@@ -14,6 +14,7 @@ pub use elements::RowField;
 pub use field::Field;
 pub use input::Input;
 pub use output::put_byte;
+pub use section::all_below;
 pub use section::append_list;
 pub use section::append_long;
 pub use section::append_short;

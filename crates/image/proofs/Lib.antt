@@ -1,3 +1,4 @@
 pub mod Deals
+pub mod Laws
 pub mod Placed
 pub mod Runs

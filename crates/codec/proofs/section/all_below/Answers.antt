@@ -4,8 +4,8 @@ use Prim.Native.Nat.{ℕ}
 use lib.Dec.{ltb}
 use Rattle.std.proofs.shelf.Tests.{lt-ltb, le-ltb}
 use Rattle.names.proofs.Loops.{every-goes, every-stops, test-ends}
 use Rattle.codec.specs.Format.{every}
-use Rattle.artifact.proofs.read.all_below.Needs as need
+use Rattle.codec.proofs.section.all_below.Needs as need
 
 pub returns-then-from-limit : need.returns-then-from-limit
 returns-then-from-limit c =
