@@ -1,0 +1,3 @@
+pub mod Deals
+pub mod Placed
+pub mod Runs
