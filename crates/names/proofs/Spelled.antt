@@ -6,7 +6,7 @@ use Prim.Native.Nat.{ℕ, zero, suc, _+_, _-_, _<_, _≤_}
 use native.Mathlib.Omega.{arith}
 use lib.Dec.{eqb, leb}
 use lib.ListN.{length, getD, drop, replicate, length-append, length-replicate}
-use Rattle.std.proofs.shelf.Tests.{true≢false, and-parts, leb-true, le-leb, lt-leb, eq-eqb, ne-eqb}
+use Rattle.std.proofs.shelf.Tests.{true≢false, and-parts, eqb-true, leb-true, le-leb, lt-leb, eq-eqb, ne-eqb}
 use Rattle.names.specs.Spelling.{letter, digit, continues, blank, tail, padded-name, plain, written-name, padded}
 
 blank-zeros : (n : ℕ) → blank (replicate n 0) ≡ true
@@ -75,3 +75,8 @@ written-parts (b ∷ bs) h k = let e : length bs ≤ 7 = omega arith in ap (λ x
 pub written-long : (bs : List ℕ) → 8 < length bs → written-name bs ≡ false
 written-long [] h = refl
 written-long (b ∷ bs) h = let e : 7 < length bs = omega arith in ap (λ x. x && (letter b && plain bs)) (lt-leb (length bs) 7 e)
+
+-- a name has eight bytes
+pub padded-eight : (bs : List ℕ) → padded-name bs ≡ true → length bs ≡ 8
+padded-eight [] h = absurd (true≢false (sym h))
+padded-eight (b ∷ bs) h = ap suc (eqb-true (length bs) 7 (and-parts (eqb (length bs) 7) (letter b && tail bs) h .0))

@@ -126,7 +126,7 @@ module _ {K : Type 0} {R : K → K → Ordering → Type 0} (o : Total R) (keys 
   only : (a b : List ℕ) → Smallest-first (o .cmp) keys needs a → Smallest-first (o .cmp) keys needs b → length a ≡ length b → a ≡ b
   only a b f g e = sym (take-all (length a) a (omega arith)) ∙ fronts a b f g (length a) (omega arith) (omega arith) ∙ take-all (length a) b (omega arith)
 
-  once-length : (d : List ℕ) → Each-once (length keys) d → length d ≡ length keys
+  pub once-length : (d : List ℕ) → Each-once (length keys) d → length d ≡ length keys
   once-length d h =
       let full : total (length keys) d ≡ length d = total-all (length keys) d (λ i l. h i ∙ ap (λ b. cond b 1 0) (le-ltb i (length keys) l)) in
       let most = total-most (length keys) d once in

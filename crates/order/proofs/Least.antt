@@ -11,7 +11,7 @@ use lib.ListN.{length, getD}
 use Rattle.std.specs.declared.cmp.Ordering.{Ordering}
 use Rattle.std.specs.declared.option.Option.{Option}
 use Rattle.std.specs.declared.option.Option.the-variants.{Some, None}
-use Rattle.std.specs.Options.{mapped, Cases}
+use Rattle.std.specs.Options.{mapped, isSome, Cases}
 use Rattle.std.specs.Orderings.{isLt}
 use Rattle.std.specs.Slices.{Ranks}
 use Rattle.std.specs.Keys.{Total}
@@ -168,3 +168,25 @@ module _ {K : Type 0} {R : K → K → Ordering → Type 0} (o : Total R) (test 
 
   pub none-passes : smallest (o .cmp) test keys ≡ None → (i : ℕ) → i < length keys → test i ≡ false
   none-passes e = at-smallest None e
+
+-- tests that agree on the items have one smallest
+pub smallest-same : {K : Type 0} {R : K → K → Ordering → Type 0} (o : Total R) (s t : ℕ → Bool) (keys : List K) → ((i : ℕ) → i < length keys → t i ≡ s i) → smallest (o .cmp) s keys ≡ smallest (o .cmp) t keys
+smallest-same o s t keys same = sym (least-is o t keys (smallest (o .cmp) s keys) (moved (smallest (o .cmp) s keys) (smallest-least o s keys)))
+  where
+    moved : (b : Option ℕ) → Least o s keys (length keys) b → Least o t keys (length keys) b
+    moved None h = λ k l. same k l ∙ h k l
+    moved (Some b) h = (h .0, same b (h .0) ∙ h .1, (λ k l d p. h .2 k l d (sym (same k l) ∙ p)), λ k d l p. h .3 k d l (sym (same k (let z = h .0 in omega arith)) ∙ p))
+
+-- the first that passes is one of the list
+pub first-below : {X : Type 0} (p : ℕ → X → Bool) (xs : List X) (i : ℕ) → first p xs ≡ Some i → i < length xs
+first-below p [] i h = absurd (true≢false (sym (ap isSome h)))
+first-below p (x ∷ xs) i h = by (p 0 x) refl (first (λ k. p (suc k)) xs) refl (λ j e. first-below (λ k. p (suc k)) xs j e)
+  where
+    by : (b : Bool) → p 0 x ≡ b → (r : Option ℕ) → first (λ k. p (suc k)) xs ≡ r → ((j : ℕ) → first (λ k. p (suc k)) xs ≡ Some j → j < length xs) → i < length (x ∷ xs)
+    by true e r q go = let z : Some 0 ≡ Some i = sym (ap (λ b. cond b (Some 0) (mapped suc (first (λ k. p (suc k)) xs))) e) ∙ h in let y : _≡_ {A = ℕ} 0 i = cc in omega arith
+    by false e None q go = absurd (true≢false (sym (ap isSome (sym (ap (λ b. cond b (Some 0) (mapped suc (first (λ k. p (suc k)) xs))) e ∙ ap (mapped suc) q) ∙ h))))
+    by false e (Some j) q go =
+        let z : Some (suc j) ≡ Some i = sym (ap (λ b. cond b (Some 0) (mapped suc (first (λ k. p (suc k)) xs))) e ∙ ap (mapped suc) q) ∙ h in
+        let y : suc j ≡ i = cc in
+        let l = go j q in
+        omega arith

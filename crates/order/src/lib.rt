@@ -4,7 +4,6 @@
 ghost use mathlib.Core.Path.{_≡_};
 ghost use Prim.Native.Nat.{_<_};
 ghost use lib.ListN.{length, getD};
-ghost use Rattle.std.specs.Options.{valueOr};
 ghost use Rattle.std.specs.Keys.{Total};
 ghost use Rattle.std.specs.Orderings.{isEq, isLt};
 ghost use Rattle.order.specs.Dependency.{placed, settled, free, ready, next, left, ordered, Answers};
@@ -18,6 +17,7 @@ pub struct Need<K> {
 }
 
 // All items are placed; or none of the others can be, the smallest of which is told; or there are fewer places than items.
+#[derive(Clone, Copy)]
 pub enum Ordered {
     All,
     Stuck(usize),
@@ -105,11 +105,11 @@ fn pick<K: Ord>(keys: &[K], needs: &[Need<K>], done: &[usize]) -> Option<usize>
     best
 }
 
-// The smallest item that is not placed, or 0 where all are.
-fn smallest_left<K: Ord>(keys: &[K], done: &[usize]) -> usize
-    ensures { λ r. ⌜ ((o : Total (K·Ord .orders)) → r ≡ valueOr (left (o .cmp) (now (keys .entry)) (now (done .entry))) 0) ⌝ }
+// The smallest item that is not placed.
+fn left_over<K: Ord>(keys: &[K], done: &[usize]) -> Option<usize>
+    ensures { λ r. ⌜ ((o : Total (K·Ord .orders)) → r ≡ left (o .cmp) (now (keys .entry)) (now (done .entry))) ⌝ }
 {
-    pick(keys, &[], done).unwrap_or(0)
+    pick(keys, &[], done)
 }
 
 // Writes the place of each item in the list of keys, in the order in which they come.
@@ -121,11 +121,23 @@ fn fill<K: Ord>(keys: &[K], needs: &[Need<K>], places: &mut [usize]) -> Ordered
     }
     for count in 0..keys.len() {
         let Some(item) = pick(keys, needs, &places[0..count]) else {
-            return Ordered::Stuck(smallest_left(keys, &places[0..count]));
+            return Ordered::Stuck(left_over(keys, &places[0..count]).unwrap_or(0));
         };
         places[count] = item;
     }
     Ordered::All
+}
+
+// The order that the definition gives is the only list that meets the rule.
+fn is_lawful<K: Ord>(_keys: &[K], _needs: &[Need<K>])
+    ensures { λ _. ⌜ ((o : Total (K·Ord .orders)) → Lawful (o .cmp) (now («_keys» .entry)) (now («_needs» .entry)) (ordered (o .cmp) (now («_keys» .entry)) (now («_needs» .entry)))) ⌝ }
+{}
+
+// The smallest item that is not placed, if any is left.
+pub fn smallest_left<K: Ord>(keys: &[K], done: &[usize]) -> Option<usize>
+    ensures { λ r. ⌜ ((o : Total (K·Ord .orders)) → r ≡ left (o .cmp) (now (keys .entry)) (now (done .entry))) ⌝ }
+{
+    left_over(keys, done)
 }
 
 // Orders the items. Places gets the place of each item in the list of keys, in the order in which they come.
@@ -133,5 +145,6 @@ pub fn order<K: Ord>(keys: &[K], needs: &[Need<K>], places: &mut [usize]) -> Ord
     ensures answers { λ r. ⌜ ((o : Total (K·Ord .orders)) → Answers (o .cmp) (now (keys .entry)) (now (needs .entry)) (now (places .entry)) (now (places .exit)) r) ⌝ }
     ensures lawful { λ _. ⌜ ((o : Total (K·Ord .orders)) → Lawful (o .cmp) (now (keys .entry)) (now (needs .entry)) (ordered (o .cmp) (now (keys .entry)) (now (needs .entry)))) ⌝ }
 {
+    is_lawful(keys, needs);
     fill(keys, needs, places)
 }

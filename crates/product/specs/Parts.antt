@@ -18,7 +18,7 @@ use Rattle.product.specs.declared.parts.Product.{Product}
 
 -- the rows of an interface, first to last
 abbrev pub rows : Interface → List Row
-rows i = held (i .held)
+rows i = held (i .list)
 
 -- the first row of a name, given by its bytes
 abbrev pub first-row : List ℕ → List Row → Option Row

@@ -18,7 +18,7 @@ use std::alloc::Global;
 
 #[derive(Drop)]
 pub struct Interface {
-    held: Bounded<Row, 12>,
+    pub list: Bounded<Row, 12>,
 }
 
 impl Interface {
@@ -26,15 +26,15 @@ impl Interface {
     pub fn open(heap: Global) -> Result<Interface, AllocError>
         ensures { λ r. ⌜ made r (λ i. rows i ≡ []) ⌝ }
     {
-        let held = Bounded::open(heap)?;
-        Ok(Interface { held })
+        let list = Bounded::open(heap)?;
+        Ok(Interface { list })
     }
 
     // The rows, first to last.
     pub fn rows(&self) -> &[Row]
         ensures { λ r. ⌜ now r ≡ rows (now (self .entry)) ⌝ }
     {
-        self.held.as_slice()
+        self.list.as_slice()
     }
 
     // One row more at the end; refused, and nothing done, where twelve stand.
@@ -42,7 +42,7 @@ impl Interface {
         ensures answered { λ r. ⌜ answer r ≡ cond (ltb (length (rows (now (self .entry)))) 12) 0 16 ⌝ }
         ensures after { λ r. ⌜ rows (now (self .exit)) ≡ cond (ltb (length (rows (now (self .entry)))) 12) (rows (now (self .entry)) ++ row ∷ []) (rows (now (self .entry))) ⌝ }
     {
-        if self.held.push(row) {
+        if self.list.push(row) {
             Ok(())
         } else {
             Err(Refusal::TooManyRows)
@@ -53,22 +53,22 @@ impl Interface {
     pub fn clear(&mut self)
         ensures { λ _. ⌜ rows (now (self .exit)) ≡ [] ⌝ }
     {
-        self.held.clear();
+        self.list.clear();
     }
 
     // The rows of another interface in place of its own.
     pub fn copy_from(&mut self, other: &Interface)
         ensures { λ _. ⌜ rows (now (self .exit)) ≡ rows (now (other .entry)) ⌝ }
     {
-        self.held.clear();
-        self.held.extend(other.held.as_slice());
+        self.list.clear();
+        self.list.extend(other.list.as_slice());
     }
 
     // The first row of a name.
     pub fn find(&self, name: Name) -> Option<Row>
         ensures { λ r. ⌜ r ≡ first-row (name .bytes) (rows (now (self .entry))) ⌝ }
     {
-        let rows = self.held.as_slice();
+        let rows = self.list.as_slice();
         for (i, row) in rows.iter().enumerate() {
             if row.name == name {
                 return Some(rows[i]);

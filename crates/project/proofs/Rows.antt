@@ -15,6 +15,8 @@ use Rattle.std.specs.Of.Vec.{vec-items}
 use Rattle.std.specs.Orderings.{Decides}
 use Rattle.std.specs.shelf.Text.{sameBytes}
 use Rattle.std.proofs.shelf.Lists.{getD-take, getD-map, length-map, length-take-le, take-append-le}
+use Rattle.std.specs.shelf.Maps.{nth}
+use Rattle.std.proofs.shelf.Maps.{nth-getD}
 use Rattle.std.proofs.shelf.Tests.{true≢false, le-ltb}
 use Rattle.std.proofs.shelf.Equals.{sameBytes-decides}
 use Rattle.std.proofs.shelf.Ways.{same-from-decides}
@@ -127,3 +129,12 @@ module _ (u : Member) (vs : List Member) (s : length (u .source) ≤ 512) (n : l
 
   pub put-old : (i : ℕ) → at (u .name) vs ≡ Some i → put-answer u vs ≡ 0
   put-old i e = put-by ∙ ap (λ a. cond (not (isSome a) && leb 24 (length vs)) 14 0) e
+
+-- a row by its place
+pub nth-row : (p : Project) (i : ℕ) (u : Unit) → i < p .count → u ≡ getD (vec-items (p .table .rows)) i u → nth (members p) i ≡ Some (member u)
+nth-row p i u h e = let l = members-length p in nth-getD (members p) i (member u) (omega arith) ∙ ap Some (row-at p i u (member u) h e)
+
+pub nth-map : {X Y : Type 0} (f : X → Y) (xs : List X) (i : ℕ) (x : X) → nth xs i ≡ Some x → nth (map f xs) i ≡ Some (f x)
+nth-map f [] i x h = absurd (true≢false (sym (ap isSome h)))
+nth-map f (y ∷ ys) zero x h = ap (mapped f) h
+nth-map f (y ∷ ys) (suc i) x h = nth-map f ys i x h

@@ -20,6 +20,20 @@ use std::alloc::AllocError;
 use std::alloc::Global;
 
 impl Project {
+    // A project with no unit, and memory for 24.
+    pub fn open(heap: Global) -> Result<Project, AllocError>
+        ensures { λ r. ⌜ made r (λ p. members p ≡ []) ⌝ }
+    {
+        let mut rows = Vec::with_capacity(heap, 24)?;
+        for _ in 0..24usize {
+            rows.push_reserved(Unit::open(heap)?);
+        }
+        Ok(Project {
+            table: Table { rows },
+            count: 0,
+        })
+    }
+
     // The place of the unit of a name.
     pub fn find(&self, name: Name) -> Option<usize>
         ensures { λ r. ⌜ r ≡ at name (members (now (self .entry))) ⌝ }

@@ -16,8 +16,8 @@ front count xs = ap (λ n. take n xs) (sub-zero count)
 pub part-pick-end : need.part-pick-end
 part-pick-end g c = omega arith
 
-pub part-smallest-left-end : need.part-smallest-left-end
-part-smallest-left-end g c = omega arith
+pub part-left-over-end : need.part-left-over-end
+part-left-over-end g c = omega arith
 
 pub keeps-places-in-rest : need.keeps-places-in-rest
 keeps-places-in-rest g c = c .loop-count .inv .2
@@ -26,9 +26,9 @@ pub returns-in-rest : need.returns-in-rest
 returns-in-rest g c =
     let at = front (c .loop-count .count) (c .loop-count .places) in
     λ o. placing-sticks (o .cmp) (c .args .keys .now) (c .args .needs .now) (c .loop-count .count) (c .loop-count .places) (c .args .places .now) (c .loop-count .inv .0 o) (c .loop-count .inv .1)
-    _ (c .smallest-left .result) (c .loop-count-test .taken) (omega arith) (omega arith)
+    _ (c .unwrap-or .result) (c .loop-count-test .taken) (omega arith) (omega arith)
     (c .in-rest .ensures tt o ∙ ap (next (o .cmp) (c .args .keys .now) (c .args .needs .now)) at)
-    (c .smallest-left .ensures o ∙ ap (λ xs. valueOr (left (o .cmp) (c .args .keys .now) xs) 0) at)
+    (c .unwrap-or .ensures ∙ ap (λ l. valueOr l 0) (c .left-over .ensures o ∙ ap (left (o .cmp) (c .args .keys .now)) at))
     refl
 
 pub index-places-count : need.index-places-count

@@ -1,0 +1,4 @@
+pub mod Laws
+pub mod Rounds
+pub mod Sizes
+pub mod Slots

@@ -1,0 +1,2 @@
+pub mod Art
+pub mod Round

@@ -1,0 +1,17 @@
+ghost use mathlib.Core.Path.{_≡_};
+ghost use Prim.Native.Nat.{_≤_};
+ghost use lib.ListN.{length};
+use bounded::Bounded;
+use product::Interface;
+use product::Product;
+
+// A translation on record: the source, the interfaces of the imports as they were, and what came out.
+#[derive(Drop)]
+pub struct Artifact {
+    pub source: Bounded<u8, 512>,
+    pub(crate) imports: [Interface; 4],
+    pub(crate) count: usize,
+    pub product: Product,
+    ghost four: { length imports ≡ 4 },
+    ghost few: { count ≤ 4 },
+}

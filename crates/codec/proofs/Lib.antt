@@ -1,0 +1,5 @@
+pub mod Added
+pub mod Laws
+pub mod Lengths
+pub mod Many
+pub mod Named

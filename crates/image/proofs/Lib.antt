@@ -1,0 +1,4 @@
+pub mod Deals
+pub mod Laws
+pub mod Placed
+pub mod Runs

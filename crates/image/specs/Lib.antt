@@ -1,0 +1,2 @@
+pub mod Dealt
+pub mod Picture

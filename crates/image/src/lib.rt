@@ -1,0 +1,13 @@
+// An image: the linked units in link order, and its writing as bytes.
+// Reading takes any bytes and answers exactly what the format says; reading what was written gives the units, and writing what was read the bytes.
+pub mod check;
+pub mod column;
+pub mod columns;
+pub mod fields;
+pub mod image;
+pub mod read;
+pub mod target;
+
+pub use fields::TargetField;
+pub use image::Image;
+pub use target::Target;
