@@ -2,6 +2,7 @@
 mod files;
 mod listing;
 mod order;
+mod translate;
 mod usage;
 
 use std::env;
@@ -21,6 +22,9 @@ fn main(rt: LibcRuntime) -> Result<(), AnyError> {
 fn run(rt: &LibcRuntime, word: &str, rest: &[String]) -> Result<(), AnyError> {
     if word == "order" {
         return order::run(rt, rest);
+    }
+    if word == "translate" {
+        return translate::run(rt, rest);
     }
     usage::print(rt)?;
     if word == "help" {

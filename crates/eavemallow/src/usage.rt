@@ -11,6 +11,14 @@ pub fn print(rt: &LibcRuntime) -> Result<(), AnyError> {
         rt,
         "  eavemallow order LISTING   the order in which a project's units are linked"
     )?;
+    println!(
+        rt,
+        "  eavemallow translate SOURCE [INTERFACE ...] [--as echo]"
+    )?;
+    println!(
+        rt,
+        "                             a source's rows, code, entries and references, or its fault"
+    )?;
     println!(rt, "  eavemallow help            this page")?;
     println!(rt, "")?;
     println!(
