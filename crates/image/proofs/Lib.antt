@@ -1,4 +1,6 @@
+pub mod Dealing
 pub mod Deals
 pub mod Laws
+pub mod Lays
 pub mod Placed
 pub mod Runs

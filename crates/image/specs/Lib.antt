@@ -1,2 +1,3 @@
 pub mod Dealt
+pub mod Laid
 pub mod Picture

@@ -5,7 +5,10 @@ pub mod column;
 pub mod columns;
 pub mod fields;
 pub mod image;
+pub mod lay;
+pub mod put;
 pub mod read;
+pub mod short;
 pub mod target;
 
 pub use fields::TargetField;
