@@ -3,4 +3,5 @@ pub mod Deals
 pub mod Laws
 pub mod Lays
 pub mod Placed
+pub mod Rounds
 pub mod Runs

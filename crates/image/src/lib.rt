@@ -10,7 +10,9 @@ pub mod put;
 pub mod read;
 pub mod short;
 pub mod target;
+pub mod write;
 
 pub use fields::TargetField;
 pub use image::Image;
 pub use target::Target;
+pub use write::longest;
