@@ -4,6 +4,7 @@ pub mod check;
 pub mod column;
 pub mod columns;
 pub mod fields;
+pub mod fill;
 pub mod image;
 pub mod lay;
 pub mod put;
