@@ -9,11 +9,17 @@ ghost use Rattle.names.specs.Ordered.{Bytewise};
 use crate::name::Name;
 use std::cmp::Ordering;
 
+fn same(a: &[u8], b: &[u8]) -> bool
+    ensures { λ r. ⌜ Decides r (now (a .entry) ≡ now (b .entry)) ⌝ }
+{
+    a == b
+}
+
 pub impl PartialEq<Name> for Name as NamePartialEq {
     ghost equals = { λ a b r. Decides r (a .bytes ≡ b .bytes) };
 
     fn eq(&self, other: &Name) -> bool {
-        self.bytes[..] == other.bytes[..]
+        same(&self.bytes, &other.bytes)
     }
 }
 

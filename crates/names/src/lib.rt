@@ -2,6 +2,7 @@
 pub mod compare;
 pub mod name;
 pub mod refusal;
+pub mod show;
 pub mod spell;
 
 pub use compare::NameEq;
@@ -11,3 +12,5 @@ pub use compare::NamePartialOrd;
 pub use name::Name;
 pub use refusal::Fault;
 pub use refusal::Refusal;
+pub use show::NameDisplay;
+pub use show::RefusalDisplay;

@@ -80,11 +80,20 @@ impl Name {
     pub fn from_text(text: &[u8]) -> Result<Name, Refusal>
         ensures { λ r. ⌜ Cases r (λ n. (n .bytes ≡ padded (now (text .entry))) × (written-name (now (text .entry)) ≡ true)) (λ e. (number e ≡ 11) × (written-name (now (text .entry)) ≡ false)) ⌝ }
     {
-        if !is_written(text) {
-            return Err(Refusal::NotAName);
+        if is_written(text) {
+            Ok(pad(text))
+        } else {
+            Err(Refusal::NotAName)
         }
-        let mut bytes = [0u8; 8];
-        bytes[0..text.len()].copy_from_slice(text);
-        Ok(Name { bytes })
     }
+}
+
+// The name that a text writes, with zero bytes behind.
+fn pad(text: &[u8]) -> Name
+    requires { ⌜ written-name (now text) ≡ true ⌝ }
+    ensures { λ r. ⌜ r .bytes ≡ padded (now (text .entry)) ⌝ }
+{
+    let mut bytes = [0u8; 8];
+    bytes[0..text.len()].copy_from_slice(text);
+    Name { bytes }
 }

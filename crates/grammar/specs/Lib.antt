@@ -1,0 +1,4 @@
+pub mod Expression
+pub mod Form
+pub mod Line
+pub mod Walk

@@ -1,0 +1,3 @@
+// Examples of names, projects and link orders, run as tests.
+#[cfg(test)]
+mod tests;

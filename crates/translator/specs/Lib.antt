@@ -1,0 +1,3 @@
+pub mod Owed
+pub mod House
+pub mod Echoed

@@ -1,0 +1,4 @@
+pub mod Gathers
+pub mod Placed
+pub mod Settles
+pub mod Wide

@@ -1,0 +1,5 @@
+pub mod Arithmetic
+pub mod Evaluation
+pub mod Needed
+pub mod Seen
+pub mod Solved
