@@ -1,0 +1,4 @@
+pub mod Comparing
+pub mod Finishing
+pub mod Found
+pub mod Prepared
