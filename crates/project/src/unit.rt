@@ -39,13 +39,6 @@ impl Unit {
         self.source.extend(source);
     }
 
-    // The unit's name.
-    pub fn name(&self) -> Name
-        ensures { λ r. ⌜ r ≡ member (now (self .entry)) .name ⌝ }
-    {
-        self.name
-    }
-
     // The names that it imports.
     pub fn imports(&self) -> &[Name]
         ensures { λ r. ⌜ now r ≡ member (now (self .entry)) .imports ⌝ }
