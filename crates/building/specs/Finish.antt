@@ -1,7 +1,9 @@
 -- What the table of products holds.
-use mathlib.Core.Bool.{Bool, true, false, _&&_}
+use mathlib.Core.Bool.{Bool, true, false, cond, _&&_}
+use mathlib.Core.Path.{_≡_}
 use mathlib.Core.List.{List, map}
 use Prim.Native.Nat.{ℕ, _≤_}
+use lib.Dec.{eqb}
 use lib.ListN.{take}
 use Rattle.std.specs.Of.Vec.{vec-items}
 use Rattle.std.specs.declared.option.Option.{Option}
@@ -11,6 +13,7 @@ use Rattle.product.specs.declared.row.Row.{Row}
 use Rattle.product.specs.Parts.{parts}
 use Rattle.artifact.specs.Art.{Art, read}
 use Rattle.ledger.specs.Shelf.{all-same}
+use Rattle.ledger.specs.Stored.{View, stored}
 use Rattle.ledger.specs.Fresh.{Made}
 use Rattle.building.specs.declared.table.Finished.{Finished}
 use Rattle.building.specs.declared.table.Done.{Done}
@@ -41,3 +44,8 @@ In-room (Some n) = n ≤ 1896
 -- the same source, and interfaces that are the same place by place
 abbrev pub same-art : (List Row → List Row → Bool) → Art → Art → Bool
 same-art same a b = sameBytes (a .source) (b .source) && all-same same (a .imports) (b .imports)
+
+-- a put of an artifact, with its answer's number
+pub record Put-art (limit rows : ℕ) (before after : View) (q : List ℕ) (a : Art) (n : ℕ) : Type 0 where
+  pub outcome : n ≡ stored limit rows .room before q a
+  pub view : after ≡ cond (eqb n 0) (stored limit rows .kept before q a) before
