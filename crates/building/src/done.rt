@@ -2,6 +2,7 @@
 ghost use mathlib.Core.Path.{_≡_};
 ghost use mathlib.Core.Bool.{cond};
 ghost use mathlib.Core.List.{[], _∷_, _++_};
+ghost use lib.Dec.{ltb};
 ghost use lib.ListN.{length};
 ghost use Prim.Native.Nat.{_<_};
 ghost use Rattle.std.specs.Vec.{made};
@@ -55,5 +56,20 @@ impl Done {
             }
         }
         &self.none
+    }
+
+    // One unit more, with a product that is taken over; false, and nothing done, where 24 stand.
+    pub fn push(&mut self, name: Name, product: &mut Product) -> bool
+        ensures fits { λ r. ⌜ r ≡ ltb (length (done-list (now (self .entry)))) 24 ⌝ }
+        ensures after { λ r. ⌜ done-list (now (self .exit)) ≡ cond r (done-list (now (self .entry)) ++ (record { unit = name; parts = parts (now (product .entry)) }) ∷ []) (done-list (now (self .entry))) ⌝ }
+    {
+        let at = self.count;
+        if at >= 24 {
+            return false;
+        }
+        self.rows[at].name = name;
+        std::mem::swap(&mut self.rows[at].product, product);
+        self.count = at + 1;
+        true
     }
 }
