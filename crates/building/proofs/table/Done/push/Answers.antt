@@ -34,8 +34,8 @@ returns c =
     record {
       fits = sym (lt-ltb (length (done-list d)) 24 (omega arith));
       after =
-        ap (λ zs. take (d .count + 1) (map finished zs)) (written xs (d .count) (record { name = c .args .name; product = c .index-mut .result .now .product }) (c .index-mut-2 .result .now) (c .swap .last .x) (omega arith) (c .index-mut-2 .ensures .value))
-        ∙ ap (take (d .count + 1)) (map-set finished xs (d .count) (record { name = c .args .name; product = c .swap .last .x }))
-        ∙ take-more-set (map finished xs) (d .count) (finished (record { name = c .args .name; product = c .swap .last .x })) (omega arith)
-        ∙ ap (λ (p : Product). done-list d ++ record { unit = c .args .name; parts = parts p } ∷ []) (c .swap .ensures .x-after)
+          ap (λ zs. take (d .count + 1) (map finished zs)) (written xs (d .count) (record { name = c .args .name; product = c .index-mut .result .now .product }) (c .index-mut-2 .result .now) (c .swap .last .x) (omega arith) (c .index-mut-2 .ensures .value))
+          ∙ ap (take (d .count + 1)) (map-set finished xs (d .count) (record { name = c .args .name; product = c .swap .last .x }))
+          ∙ take-more-set (map finished xs) (d .count) (finished (record { name = c .args .name; product = c .swap .last .x })) (omega arith)
+          ∙ ap (λ (p : Product). done-list d ++ record { unit = c .args .name; parts = parts p } ∷ []) (c .swap .ensures .x-after);
     }
