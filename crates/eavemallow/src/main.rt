@@ -2,6 +2,9 @@
 mod files;
 mod listing;
 mod order;
+mod picture;
+mod script;
+mod store;
 mod usage;
 
 use std::env;
@@ -21,6 +24,9 @@ fn main(rt: LibcRuntime) -> Result<(), AnyError> {
 fn run(rt: &LibcRuntime, word: &str, rest: &[String]) -> Result<(), AnyError> {
     if word == "order" {
         return order::run(rt, rest);
+    }
+    if word == "store" {
+        return store::run(rt, rest);
     }
     usage::print(rt)?;
     if word == "help" {

@@ -11,6 +11,10 @@ pub fn print(rt: &LibcRuntime) -> Result<(), AnyError> {
         rt,
         "  eavemallow order LISTING   the order in which a project's units are linked"
     )?;
+    println!(
+        rt,
+        "  eavemallow store KIND SCRIPT   the calls of a script on a store, and its area at the end"
+    )?;
     println!(rt, "  eavemallow help            this page")?;
     println!(rt, "")?;
     println!(
