@@ -89,6 +89,7 @@ pub impl Translator for Formula as FormulaTranslator {
     }
 
     fn count(&self) -> u64 {
-        self.count
+        let asked = self.count;
+        asked
     }
 }
