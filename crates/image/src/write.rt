@@ -21,7 +21,7 @@ use names::Refusal;
 pub fn longest() -> usize
     ensures { λ r. ⌜ (r ≡ 12630) × Round-trip ⌝ }
 {
-    12630
+    1 + 24 * 8 + 1 + 24 * (2 + 384) + 2 + 24 * 12 * 3 + 2 + 24 * 32 * 3
 }
 
 impl Image {
