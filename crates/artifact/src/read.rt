@@ -17,24 +17,13 @@ use codec::Input;
 use codec::PairField;
 use codec::ReferenceField;
 use codec::RowField;
+use codec::all_below;
 use codec::read_long;
 use codec::read_short;
 use names::Refusal;
 use product::Interface;
 use product::Product;
 use product::Reference;
-
-// Whether each place is below a limit.
-fn all_below(places: &[u16], limit: usize) -> bool
-    ensures { λ r. ⌜ r ≡ every (λ p. ltb p limit) (now (places .entry)) ⌝ }
-{
-    for p in places {
-        if usize::from(*p) >= limit {
-            return false;
-        }
-    }
-    true
-}
 
 // Whether each reference is to the unit itself or to one of so many imports.
 fn all_known(references: &[Reference], imports: usize) -> bool

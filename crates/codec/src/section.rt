@@ -2,11 +2,11 @@
 ghost use mathlib.Core.Bool.{cond};
 ghost use mathlib.Core.Path.{_≡_};
 ghost use Prim.Native.Nat.{_<_};
-ghost use lib.Dec.{leb};
+ghost use lib.Dec.{ltb, leb};
 ghost use lib.ListN.{length};
 ghost use Rattle.bounded.specs.Held.{held};
 ghost use Rattle.codec.specs.Adding.{Adds};
-ghost use Rattle.codec.specs.Format.{left, filled, many-within, each, listed, byte, pair};
+ghost use Rattle.codec.specs.Format.{left, filled, many-within, each, every, listed, byte, pair};
 use crate::field::Field;
 use crate::input::Input;
 use crate::output::put_byte;
@@ -14,7 +14,7 @@ use crate::output::put_pair;
 use bounded::Bounded;
 
 // Reads so many elements into a list, in place of what it holds; nothing is read where they would pass its limit.
-pub fn read_list<T: Field + Drop, const N: usize>(
+pub(crate) fn read_list<T: Field + Drop, const N: usize>(
     input: &mut Input<'_>,
     count: usize,
     into: &mut Bounded<T, N>,
@@ -57,7 +57,7 @@ pub fn read_long<T: Field + Drop, const N: usize>(
 }
 
 // Elements at the end of a record, one behind the other, where they have room.
-pub fn append_list<T: Field>(xs: &[T], out: &mut Bounded<u8, 1896>)
+pub(crate) fn append_list<T: Field>(xs: &[T], out: &mut Bounded<u8, 1896>)
     ensures { λ _. ⌜ Adds (held (now (out .entry))) (each (T·Field .format .put) (now (xs .entry))) (held (now (out .exit))) ⌝ }
 {
     for x in xs {
@@ -79,4 +79,16 @@ pub fn append_long<T: Field, const N: usize>(xs: &Bounded<T, N>, out: &mut Bound
 {
     put_pair((xs.len() % 65536) as u16, out);
     append_list(xs.as_slice(), out);
+}
+
+// Whether each place is below a limit.
+pub fn all_below(places: &[u16], limit: usize) -> bool
+    ensures { λ r. ⌜ r ≡ every (λ p. ltb p limit) (now (places .entry)) ⌝ }
+{
+    for p in places {
+        if usize::from(*p) >= limit {
+            return false;
+        }
+    }
+    true
 }

@@ -5,6 +5,7 @@ mod order;
 mod picture;
 mod script;
 mod store;
+mod translate;
 mod usage;
 
 use std::env;
@@ -24,6 +25,9 @@ fn main(rt: LibcRuntime) -> Result<(), AnyError> {
 fn run(rt: &LibcRuntime, word: &str, rest: &[String]) -> Result<(), AnyError> {
     if word == "order" {
         return order::run(rt, rest);
+    }
+    if word == "translate" {
+        return translate::run(rt, rest);
     }
     if word == "store" {
         return store::run(rt, rest);

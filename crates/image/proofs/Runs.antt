@@ -40,7 +40,7 @@ module _ {X : Type 0} (get : List ℕ → Option (X × List ℕ)) (unit : ℕ) w
   run-full rows [] h = absurd (true≢false (sym h))
   run-full rows (b ∷ bs) h = ap (λ t. cond t None (Some (([], suc rows), b ∷ bs))) h
 
-  run-other : (room rows : ℕ) (bs : List ℕ) → begins unit bs ≡ false → run get unit room rows bs ≡ Some (([], rows), bs)
+  pub run-other : (room rows : ℕ) (bs : List ℕ) → begins unit bs ≡ false → run get unit room rows bs ≡ Some (([], rows), bs)
   run-other room zero bs h = refl
   run-other room (suc rows) [] h = refl
   run-other zero (suc rows) (b ∷ bs) h = ap (λ t. cond t None (Some (([], suc rows), b ∷ bs))) h

@@ -1,6 +1,7 @@
 -- Images as parts, and their one writing.
 use mathlib.Core.Bool.{Bool, true, false, cond, not, _&&_, _||_}
 use mathlib.Core.List.{List, [], _∷_, _++_}
+use mathlib.Core.Path.{_≡_}
 use Prim.Native.Nat.{ℕ, _≤_, _<_}
 use lib.Dec.{eqb, ltb}
 use lib.ListN.{length, getD}
@@ -35,6 +36,10 @@ units i =
 -- no units
 abbrev pub no-units : Units
 no-units = record { names = []; codes = []; entries = []; references = [] }
+
+-- one unit more, last in link order
+abbrev pub with-unit : Units → Name → List ℕ → List ℕ → List Target → Units
+with-unit u n c es ts = record { names = u .names ++ n ∷ []; codes = u .codes ++ c ∷ []; entries = u .entries ++ es ∷ []; references = u .references ++ ts ∷ [] }
 
 -- a target: the position of a unit and the number of an entry there
 abbrev pub target : Format Target
@@ -91,3 +96,18 @@ image-bytes u = image .put u
 -- the image that bytes are, where they are one
 abbrev pub read : List ℕ → Option Units
 read bs = whole (image .get bs)
+
+-- a target whose numbers are bytes
+abbrev pub Small-target : Target → Type 0
+Small-target t = (t .unit < 256) × (t .entry < 256)
+
+-- an image within its limits
+pub record Within-units (u : Units) : Type 0 where
+  pub few : length (u .names) ≤ 24
+  pub coded : length (u .codes) ≡ length (u .names)
+  pub codes : All (λ c. (length c ≤ 384) × All (λ b. b < 256) c) (u .codes)
+  pub entered : length (u .entries) ≡ length (u .names)
+  pub entries : All (λ es. (length es ≤ 12) × All (λ e. e < 65536) es) (u .entries)
+  pub referred : length (u .references) ≡ length (u .names)
+  pub references : All (λ ts. (length ts ≤ 32) × All Small-target ts) (u .references)
+  pub sound : valid u ≡ true

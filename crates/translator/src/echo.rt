@@ -1,4 +1,4 @@
-// Echo, a translator for tests.
+// Echo, a translator to try things with: what it gives is easy to foresee.
 ghost use mathlib.Core.List.{map};
 ghost use mathlib.Core.Path.{_≡_};
 ghost use Prim.Native.Nat.{_+_, _%_, _^_};
@@ -80,6 +80,7 @@ pub impl Translator for Echo as EchoTranslator {
     }
 
     fn count(&self) -> u64 {
-        self.count
+        let Echo { count } = self;
+        *count
     }
 }

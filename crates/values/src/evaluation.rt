@@ -103,7 +103,7 @@ fn evaluate_within<'a>(
 }
 
 // The value of a constant.
-pub fn value_of(
+pub(crate) fn value_of(
     tokens: &[Token],
     imports: &[Interface],
     known: &[Known],
@@ -116,7 +116,7 @@ pub fn value_of(
 }
 
 // One constant more is known, or its line is at fault.
-pub fn learn(
+pub(crate) fn learn(
     d: &Declaration,
     value: Option<i32>,
     known: &mut Bounded<Known, 12>,

@@ -3,7 +3,7 @@
 pub mod arithmetic;
 pub mod evaluation;
 pub mod known;
-pub mod needed;
+mod needed;
 pub mod solver;
 
 pub use arithmetic::in_range;

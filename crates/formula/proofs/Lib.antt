@@ -1,0 +1,3 @@
+pub mod Congruence
+pub mod Limits
+pub mod Performs
