@@ -1,7 +1,9 @@
 // The program `eavemallow`: one word for each thing it does. What matters is in the libraries below; this reads files and prints.
 mod files;
+mod instructions;
 mod listing;
 mod order;
+mod show;
 mod usage;
 
 use std::env;
@@ -21,6 +23,9 @@ fn main(rt: LibcRuntime) -> Result<(), AnyError> {
 fn run(rt: &LibcRuntime, word: &str, rest: &[String]) -> Result<(), AnyError> {
     if word == "order" {
         return order::run(rt, rest);
+    }
+    if word == "show" {
+        return show::run(rt, rest);
     }
     usage::print(rt)?;
     if word == "help" {

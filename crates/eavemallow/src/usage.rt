@@ -11,6 +11,10 @@ pub fn print(rt: &LibcRuntime) -> Result<(), AnyError> {
         rt,
         "  eavemallow order LISTING   the order in which a project's units are linked"
     )?;
+    println!(
+        rt,
+        "  eavemallow show FILE       what an image or an artifact holds (--image, --artifact choose one)"
+    )?;
     println!(rt, "  eavemallow help            this page")?;
     println!(rt, "")?;
     println!(

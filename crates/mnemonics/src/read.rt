@@ -2,8 +2,8 @@
 ghost use mathlib.Core.Path.{_≡_};
 ghost use Rattle.codec.specs.Format.{left, read-as};
 ghost use Rattle.mnemonics.specs.Code.{instruction};
-use codec::Input;
 use crate::instruction::Instruction;
+use codec::Input;
 
 // The instruction that stands first in what is left.
 pub fn next(input: &mut Input<'_>) -> Option<Instruction>
