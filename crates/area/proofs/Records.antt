@@ -1,8 +1,8 @@
 -- A record read where it was laid.
 use mathlib.Core.Path.{_≡_, refl, sym, ap, subst, _∙_}
-use mathlib.Core.Bool.{Bool, true, false, cond, _&&_}
+use mathlib.Core.Bool.{Bool, true, false, _&&_}
 use mathlib.Core.List.{List, [], _∷_, _++_}
-use Prim.Native.Nat.{ℕ, suc, min, _+_, _-_, _*_, _/_, _%_, _<_, _≤_}
+use Prim.Native.Nat.{ℕ, min, _+_, _-_, _/_, _%_, _<_, _≤_}
 use native.Mathlib.Omega.{arith}
 use borrow.Author.Needs.{needs}
 use lib.Dec.{eqb}
@@ -17,9 +17,9 @@ use Rattle.std.proofs.shelf.Equals.{sameBytes-decides}
 use Rattle.std.proofs.shelf.Lists.{take-at}
 use Rattle.std.proofs.shelf.Tests.{true≢false, and-parts, eqb-true}
 use Rattle.names.specs.Spelling.{padded-name, letter, tail}
-use Rattle.store.specs.Pairs.{Pair, pair}
+use Rattle.store.specs.Pairs.{pair}
 use Rattle.store.proofs.Pairs.{by-test, same-is}
-use Rattle.area.specs.Layout.{header-size, laid, live, key, size, content, holds, held, written}
+use Rattle.area.specs.Layout.{header-size, laid, live, key, size, content, held, written}
 
 pub tested : (x y : List ℕ) (r : Bool) → Decides r (x ≡ y) → r ≡ sameBytes x y
 tested x y r h = search (needs, sameBytes-decides)

@@ -1,5 +1,5 @@
 -- How a record lies in an area: eleven bytes, which are the mark, the name and the length, and then the record.
-use mathlib.Core.Bool.{Bool, true, false, cond, _&&_}
+use mathlib.Core.Bool.{Bool, cond, _&&_}
 use mathlib.Core.List.{List, [], _∷_, _++_}
 use Prim.Native.Nat.{ℕ, min, _+_, _-_, _*_, _/_, _%_}
 use lib.Dec.{eqb}

@@ -6,6 +6,7 @@ use lib.Dec.{ltb, leb}
 use lib.ListN.{length, take}
 use Rattle.std.specs.declared.option.Option.{Option}
 use Rattle.std.specs.declared.option.Option.the-variants.{None, Some}
+use Rattle.std.specs.Of.Vec.{vec-items}
 use Rattle.std.specs.shelf.Lists.{All}
 use Rattle.bounded.specs.Held.{held}
 use Rattle.product.specs.Parts.{Parts, parts, no-parts, rows, Within, Within-rows}
@@ -27,7 +28,7 @@ imported is = map rows is
 
 -- what an artifact holds
 abbrev pub art : Artifact → Art
-art a = record { source = held (a .source); imports = imported (take (a .count) (a .imports)); product = parts (a .product) }
+art a = record { source = held (a .source); imports = imported (take (a .count) (vec-items (a .imports))); product = parts (a .product) }
 
 -- an artifact with nothing in it
 abbrev pub no-art : Art

@@ -1,6 +1,6 @@
 ghost use mathlib.Core.Path.{_≡_};
 ghost use Prim.Native.Nat.{_≤_};
-ghost use lib.ListN.{length};
+ghost use Rattle.std.specs.Of.Vec.{vec-len};
 use bounded::Bounded;
 use product::Interface;
 use product::Product;
@@ -9,9 +9,9 @@ use product::Product;
 #[derive(Drop)]
 pub struct Artifact {
     pub source: Bounded<u8, 512>,
-    pub(crate) imports: [Interface; 4],
+    pub(crate) imports: Vec<Interface>,
     pub(crate) count: usize,
     pub product: Product,
-    ghost four: { length imports ≡ 4 },
+    ghost four: { vec-len imports ≡ 4 },
     ghost few: { count ≤ 4 },
 }

@@ -4,6 +4,7 @@ ghost use mathlib.Core.List.{[], _∷_, _++_};
 ghost use mathlib.Core.Path.{_≡_};
 ghost use lib.Dec.{ltb};
 ghost use lib.ListN.{length};
+ghost use Rattle.std.specs.Of.Vec.{vec-len};
 ghost use Rattle.std.specs.Vec.{made};
 ghost use Rattle.product.specs.Parts.{rows, parts};
 ghost use Rattle.artifact.specs.Art.{art, no-art, imported, with-import};
@@ -14,20 +15,29 @@ use product::Product;
 use std::alloc::AllocError;
 use std::alloc::Global;
 
+// Four interfaces with no rows.
+fn slots(heap: Global) -> Result<Vec<Interface>, AllocError>
+    ensures { λ r. ⌜ made r (λ v. vec-len v ≡ 4) ⌝ }
+{
+    let mut slots = Vec::with_capacity(heap, 4)?;
+    for _ in 0..4usize {
+        let slot = Interface::open(heap)?;
+        slots.push_reserved(slot);
+    }
+    Ok(slots)
+}
+
 impl Artifact {
     // An artifact with nothing in it, and memory for all that its limits allow.
     pub fn open(heap: Global) -> Result<Artifact, AllocError>
         ensures { λ r. ⌜ made r (λ a. art a ≡ no-art) ⌝ }
     {
         let source = Bounded::open(heap)?;
-        let first = Interface::open(heap)?;
-        let second = Interface::open(heap)?;
-        let third = Interface::open(heap)?;
-        let fourth = Interface::open(heap)?;
+        let imports = slots(heap)?;
         let product = Product::open(heap)?;
         Ok(Artifact {
             source,
-            imports: [first, second, third, fourth],
+            imports,
             count: 0,
             product,
         })
@@ -37,7 +47,7 @@ impl Artifact {
     pub fn imports(&self) -> &[Interface]
         ensures { λ r. ⌜ imported (now r) ≡ art (now (self .entry)) .imports ⌝ }
     {
-        let all = &self.imports[..];
+        let all = self.imports.as_slice();
         &all[0..self.count]
     }
 

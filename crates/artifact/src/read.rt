@@ -2,6 +2,7 @@
 ghost use mathlib.Core.Path.{_≡_};
 ghost use Prim.Native.Nat.{_≤_};
 ghost use lib.Dec.{ltb, leb};
+ghost use Rattle.std.specs.Of.Vec.{vec-items, vec-len};
 ghost use Rattle.std.specs.Options.{Cases as BySome};
 ghost use Rattle.std.specs.Results.{Cases};
 ghost use lib.ListN.{length};
@@ -76,11 +77,11 @@ fn read_product(input: &mut Input<'_>, imports: usize, into: &mut Product) -> Op
 }
 
 // Reads interfaces into the first of some slots, and answers how many.
-fn read_imports(input: &mut Input<'_>, slots: &mut [Interface; 4]) -> Option<usize>
-    requires { ⌜ length (now slots) ≡ 4 ⌝ }
-    ensures parts { λ r. ⌜ imports-read r (now (slots .exit)) (left (now (input .exit))) ≡ imports .get (left (now (input .entry))) ⌝ }
+fn read_imports(input: &mut Input<'_>, slots: &mut Vec<Interface>) -> Option<usize>
+    requires { ⌜ vec-len (now slots) ≡ 4 ⌝ }
+    ensures parts { λ r. ⌜ imports-read r (vec-items (now (slots .exit))) (left (now (input .exit))) ≡ imports .get (left (now (input .entry))) ⌝ }
     ensures few { λ r. ⌜ BySome r (Unit {0}) (λ n. n ≤ 4) ⌝ }
-    ensures four { λ _. ⌜ length (now (slots .exit)) ≡ 4 ⌝ }
+    ensures four { λ _. ⌜ vec-len (now (slots .exit)) ≡ 4 ⌝ }
 {
     let count = usize::from(input.byte()?);
     if count > 4 {

@@ -23,7 +23,7 @@ use product::Product;
 pub fn longest() -> usize
     ensures { λ r. ⌜ (r ≡ 1896) × Round-trip ⌝ }
 {
-    1896
+    2 + 512 + 1 + 4 * (1 + 12 * 15) + 1 + 12 * 15 + 2 + 384 + 1 + 12 * 2 + 1 + 32 * 2
 }
 
 // Interfaces at the end of a record, where they have room.

@@ -1,25 +1,25 @@
 -- The records held, when one is found, moved to the front, taken in or let go.
 use mathlib.Core.Path.{_≡_, refl, sym, ap, subst, _∙_}
-use mathlib.Core.Bool.{Bool, true, false, not, cond, _&&_, _||_}
-use mathlib.Core.List.{List, [], _∷_, _++_, map, append-assoc}
-use Prim.Native.Nat.{ℕ, zero, suc, min, _+_, _-_, _<_, _≤_}
+use mathlib.Core.Bool.{true, false}
+use mathlib.Core.List.{List, [], _∷_, _++_, map}
+use Prim.Native.Nat.{ℕ, suc, _+_, _-_, _<_, _≤_}
 use native.Mathlib.Nat.{sub-zero}
 use native.Mathlib.Numerals.{add-one}
 use native.Mathlib.Omega.{arith}
 use lib.Dec.{leb}
-use lib.ListN.{length, getD, take, drop, length-append, length-map, length-take}
+use lib.ListN.{length, getD, take, drop, length-map}
 use Rattle.std.specs.Holes.{removed}
-use Rattle.std.specs.Options.{isSome, mapped}
+use Rattle.std.specs.Options.{mapped}
 use Rattle.std.specs.shelf.Text.{sameBytes}
 use Rattle.std.specs.declared.option.Option.{Option}
 use Rattle.std.specs.declared.option.Option.the-variants.{Some, None}
-use Rattle.std.proofs.shelf.Tests.{true≢false, or-from, le-leb, lt-leb, cond-true, cond-false}
-use Rattle.std.proofs.shelf.Lists.{append-nil, take-more, drop-more, take-append-drop, getD-map, take-map, drop-map, take-all, map-append, getD-at, drop-at, take-at, length-take-le}
+use Rattle.std.proofs.shelf.Tests.{or-from, le-leb, lt-leb, cond-true, cond-false}
+use Rattle.std.proofs.shelf.Lists.{take-more, drop-more, take-append-drop, getD-map, take-map, drop-map, take-all, map-append, getD-at, drop-at, take-at, length-take-le}
 use Rattle.bounded.specs.Held.{held}
-use Rattle.store.specs.Pairs.{Pair, pair, lookup, has, without, once}
+use Rattle.store.specs.Pairs.{Pair, pair, lookup, has, without}
 use Rattle.store.specs.Says.{get-number, get-buffer}
-use Rattle.store.proofs.Pairs.{by-test, same-is, same-refl, has-append, lookup-at, without-at, without-none, lookup-without-other, lookup-without-same, length-without, length-in}
-use Rattle.cache.specs.Recent.{places, admitted, to-front, after-put, after-get, Agrees, Place-of}
+use Rattle.store.proofs.Pairs.{by-test, has-append, lookup-at, without-at, length-in}
+use Rattle.cache.specs.Recent.{places, admitted, to-front, after-get, Place-of}
 use Rattle.cache.specs.Kept.{copy-of}
 use Rattle.cache.specs.declared.copies.Copied.{Copied}
 

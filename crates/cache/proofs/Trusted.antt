@@ -1,26 +1,26 @@
 -- The copies stay true: what put, get and drop leave of them agrees with the store below.
 use mathlib.Core.Path.{_≡_, refl, sym, ap, subst, _∙_}
-use mathlib.Core.Bool.{Bool, true, false, not, cond, _&&_, _||_}
-use mathlib.Core.List.{List, [], _∷_, _++_}
-use Prim.Native.Nat.{ℕ, zero, suc, _+_, _-_, _<_, _≤_}
+use mathlib.Core.Bool.{true, false, not}
+use mathlib.Core.List.{List, [], _∷_}
+use Prim.Native.Nat.{ℕ, zero, suc, _-_, _≤_}
 use native.Mathlib.Omega.{arith}
 use lib.Dec.{leb, eqb}
-use lib.ListN.{length, take, drop}
+use lib.ListN.{length, take}
 use Rattle.std.specs.Options.{isSome, mapped}
 use Rattle.std.specs.Vec.{made}
 use Rattle.std.specs.shelf.Text.{sameBytes}
 use Rattle.std.specs.declared.option.Option.{Option}
 use Rattle.std.specs.declared.option.Option.the-variants.{Some, None}
 use Rattle.std.specs.declared.result.Result.{Result}
-use Rattle.std.specs.declared.result.Result.the-variants.{Ok, Err}
+use Rattle.std.specs.declared.result.Result.the-variants.{Err}
 use Rattle.std.proofs.shelf.Tests.{true≢false, and-parts, and-from, not-true, not-from-false, ne-eqb, cond-false, leb-true}
 use Rattle.names.specs.declared.refusal.Refusal.{Refusal}
 use Rattle.names.specs.declared.refusal.Refusal.the-variants.{NotAName, SourceTooLong, TooManyImports, TooManyUnits, NoSuchUnit, TooManyRows, ImportMissing, ImportCircle, Faulty, StoreFull, RecordTooLong, BufferTooShort, NotBuilt, ImageTooLong, EntryMissing, NotAnImage, NotAnArtifact}
 use Rattle.names.specs.Refusals.{number, answer}
 use Rattle.store.specs.Pairs.{Pair, pair, lookup, has, without, once, Same-pairs}
-use Rattle.store.specs.Says.{get-number, get-buffer, put-pairs, Put-says, Get-says, Drop-says}
-use Rattle.store.proofs.Pairs.{by-test, same-is, same-refl, none-from, lookup-without-other, lookup-without-same}
-use Rattle.cache.specs.Recent.{places, admitted, after-put, after-get, Agrees, True-copies}
+use Rattle.store.specs.Says.{get-number, get-buffer, Put-says, Get-says}
+use Rattle.store.proofs.Pairs.{by-test, same-is, same-refl, lookup-without-other, lookup-without-same}
+use Rattle.cache.specs.Recent.{admitted, after-put, after-get, Agrees, True-copies}
 use Rattle.cache.proofs.Copying.{got-all}
 
 -- a front of a list

@@ -1,6 +1,5 @@
 -- The records in a cache's own memory.
 use mathlib.Core.List.{List, map}
-use Prim.Native.Nat.{ℕ}
 use Rattle.std.specs.Of.Vec.{vec-items}
 use Rattle.bounded.specs.Held.{held}
 use Rattle.store.specs.Pairs.{Pair, pair}

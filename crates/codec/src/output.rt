@@ -14,7 +14,7 @@ pub fn put_byte(b: u8, out: &mut Bounded<u8, 1896>)
 }
 
 // Two bytes, the higher first.
-pub fn put_pair(n: u16, out: &mut Bounded<u8, 1896>)
+pub(crate) fn put_pair(n: u16, out: &mut Bounded<u8, 1896>)
     ensures { λ _. ⌜ Adds (held (now (out .entry))) (pair .put n) (held (now (out .exit))) ⌝ }
 {
     let bytes = [(n / 256) as u8, (n % 256) as u8];
@@ -22,7 +22,7 @@ pub fn put_pair(n: u16, out: &mut Bounded<u8, 1896>)
 }
 
 // A number with a sign in four bytes, the highest first.
-pub fn put_value(v: i32, out: &mut Bounded<u8, 1896>)
+pub(crate) fn put_value(v: i32, out: &mut Bounded<u8, 1896>)
     ensures { λ _. ⌜ Adds (held (now (out .entry))) (value .put v) (held (now (out .exit))) ⌝ }
 {
     let bits = v.cast_unsigned();
@@ -31,7 +31,7 @@ pub fn put_value(v: i32, out: &mut Bounded<u8, 1896>)
 }
 
 // A name in the padded form.
-pub fn put_name(n: Name, out: &mut Bounded<u8, 1896>)
+pub(crate) fn put_name(n: Name, out: &mut Bounded<u8, 1896>)
     ensures { λ _. ⌜ Adds (held (now (out .entry))) (name .put n) (held (now (out .exit))) ⌝ }
 {
     let bytes = n.bytes();

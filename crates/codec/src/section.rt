@@ -14,7 +14,7 @@ use crate::output::put_pair;
 use bounded::Bounded;
 
 // Reads so many elements into a list, in place of what it holds; nothing is read where they would pass its limit.
-pub fn read_list<T: Field + Drop, const N: usize>(
+pub(crate) fn read_list<T: Field + Drop, const N: usize>(
     input: &mut Input<'_>,
     count: usize,
     into: &mut Bounded<T, N>,
@@ -57,7 +57,7 @@ pub fn read_long<T: Field + Drop, const N: usize>(
 }
 
 // Elements at the end of a record, one behind the other, where they have room.
-pub fn append_list<T: Field>(xs: &[T], out: &mut Bounded<u8, 1896>)
+pub(crate) fn append_list<T: Field>(xs: &[T], out: &mut Bounded<u8, 1896>)
     ensures { λ _. ⌜ Adds (held (now (out .entry))) (each (T·Field .format .put) (now (xs .entry))) (held (now (out .exit))) ⌝ }
 {
     for x in xs {

@@ -1,7 +1,12 @@
 // The program `eavemallow`: one word for each thing it does. What matters is in the libraries below; this reads files and prints.
 mod files;
+mod instructions;
 mod listing;
 mod order;
+mod picture;
+mod script;
+mod show;
+mod store;
 mod translate;
 mod usage;
 
@@ -25,6 +30,12 @@ fn run(rt: &LibcRuntime, word: &str, rest: &[String]) -> Result<(), AnyError> {
     }
     if word == "translate" {
         return translate::run(rt, rest);
+    }
+    if word == "show" {
+        return show::run(rt, rest);
+    }
+    if word == "store" {
+        return store::run(rt, rest);
     }
     usage::print(rt)?;
     if word == "help" {

@@ -1,2 +1,4 @@
 pub mod Dealt
+pub mod Laid
 pub mod Picture
+pub mod Round

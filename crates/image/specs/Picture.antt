@@ -37,6 +37,10 @@ units i =
 abbrev pub no-units : Units
 no-units = record { names = []; codes = []; entries = []; references = [] }
 
+-- one unit more, last in link order
+abbrev pub with-unit : Units → Name → List ℕ → List ℕ → List Target → Units
+with-unit u n c es ts = record { names = u .names ++ n ∷ []; codes = u .codes ++ c ∷ []; entries = u .entries ++ es ∷ []; references = u .references ++ ts ∷ [] }
+
 -- a target: the position of a unit and the number of an entry there
 abbrev pub target : Format Target
 target = record { put = λ t. byte .put (t .unit) ++ byte .put (t .entry); get = λ bs. next (byte .get bs) (λ u cs. next (byte .get cs) (λ e ds. Some (record { unit = u; entry = e }, ds))) }

@@ -2,9 +2,9 @@
 ghost use mathlib.Core.Bool.{true, false};
 ghost use mathlib.Core.List.{[]};
 ghost use mathlib.Core.Path.{_≡_};
-ghost use Prim.Native.Nat.{ℕ, _<_};
+ghost use Prim.Native.Nat.{ℕ, _<_, _≤_};
 ghost use lib.Dec.{ltb};
-ghost use lib.ListN.{getD};
+ghost use lib.ListN.{length, getD};
 ghost use Rattle.codec.specs.Format.{every};
 ghost use Rattle.image.specs.Dealt.{lists};
 ghost use Rattle.image.specs.Picture.{units, among, different, placed, present, valid};
@@ -43,7 +43,8 @@ impl<T, const N: usize> Column<T, N> {
     // The list of a unit.
     pub(crate) fn list(&self, unit: usize) -> &[T]
         requires { ⌜ unit < 24 ⌝ }
-        ensures { λ r. ⌜ ((n : ℕ) → unit < n → now r ≡ getD (lists n (now (self .entry))) unit []) ⌝ }
+        ensures value { λ r. ⌜ ((n : ℕ) → unit < n → now r ≡ getD (lists n (now (self .entry))) unit []) ⌝ }
+        ensures few { λ r. ⌜ length (now r) ≤ N ⌝ }
     {
         self.lists[unit].as_slice()
     }

@@ -4,10 +4,16 @@ pub mod check;
 pub mod column;
 pub mod columns;
 pub mod fields;
+pub mod fill;
 pub mod image;
+pub mod lay;
+pub mod put;
 pub mod read;
+pub mod short;
 pub mod target;
+pub mod write;
 
 pub use fields::TargetField;
 pub use image::Image;
 pub use target::Target;
+pub use write::longest;

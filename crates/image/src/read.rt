@@ -1,8 +1,9 @@
 // Reading of images.
 ghost use mathlib.Core.Path.{_≡_};
+ghost use Rattle.std.specs.Results.{Cases};
 ghost use Rattle.names.specs.Refusals.{answer};
 ghost use Rattle.codec.specs.Format.{left, filled, got, refusing};
-ghost use Rattle.image.specs.Picture.{units, sections, image, valid, read};
+ghost use Rattle.image.specs.Picture.{units, sections, image, valid, read, image-bytes, Within-units};
 use crate::fields::TargetField;
 use crate::image::Image;
 use codec::ByteField;
@@ -35,6 +36,7 @@ impl Image {
     // Reads the image that the bytes are, in place of what is held; where they are none, what is held then is open.
     pub fn read(&mut self, bytes: &[u8]) -> Result<(), Refusal>
         ensures parts { λ r. ⌜ got r (units (now (self .exit))) ≡ read (now (bytes .entry)) ⌝ }
+        ensures back { λ r. ⌜ Cases r (λ _. (image-bytes (units (now (self .exit))) ≡ now (bytes .entry)) × Within-units (units (now (self .exit)))) (λ _. Unit {0}) ⌝ }
         ensures number { λ r. ⌜ answer r ≡ refusing 54 (read (now (bytes .entry))) ⌝ }
     {
         let mut input = Input { rest: bytes };

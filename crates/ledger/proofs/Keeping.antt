@@ -32,7 +32,7 @@ use Rattle.ledger.proofs.Builds.{build-shows}
 
 -- ---- lists of units
 
-all-with : (P : Member → Type 0) (u : Member) (vs : List Member) → All P vs → P u → All P (with u vs)
+pub all-with : (P : Member → Type 0) (u : Member) (vs : List Member) → All P vs → P u → All P (with u vs)
 all-with P u [] h k = (k, tt)
 all-with P u (v ∷ vs) h k = by (same (v .name) (u .name)) (all-with P u vs (h .1) k)
   where
@@ -40,7 +40,7 @@ all-with P u (v ∷ vs) h k = by (same (v .name) (u .name)) (all-with P u vs (h 
     by true r = (k, h .1)
     by false r = (h .0, r)
 
-all-without : (P : Member → Type 0) (n : Name) (vs : List Member) → All P vs → All P (without n vs)
+pub all-without : (P : Member → Type 0) (n : Name) (vs : List Member) → All P vs → All P (without n vs)
 all-without P n [] h = tt
 all-without P n (v ∷ vs) h = by (same (v .name) n) (all-without P n vs (h .1))
   where
@@ -53,12 +53,12 @@ all-nth P [] i h = tt
 all-nth P (v ∷ vs) zero h = (h .0, tt)
 all-nth P (v ∷ vs) (suc i) h = all-nth P vs i (h .1)
 
-all-in-order : (P : Member → Type 0) (vs : List Member) (places : List ℕ) → All P vs → All P (in-order vs places)
+pub all-in-order : (P : Member → Type 0) (vs : List Member) (places : List ℕ) → All P vs → All P (in-order vs places)
 all-in-order P vs [] h = tt
 all-in-order P vs (p ∷ ps) h = all-append P (listOf (nth vs p)) (in-order vs ps) (all-nth P vs p h) (all-in-order P vs ps h)
 
 -- what put accepts is within bounds
-put-within : (u : Member) (vs : List Member) → put-answer u vs ≡ 0 → (length (u .source) ≤ 512) × (length (u .imports) ≤ 4)
+pub put-within : (u : Member) (vs : List Member) → put-answer u vs ≡ 0 → (length (u .source) ≤ 512) × (length (u .imports) ≤ 4)
 put-within u vs h = by (ltb 512 (length (u .source))) refl (ltb 4 (length (u .imports))) refl h
   where
     by : (a : Bool) → ltb 512 (length (u .source)) ≡ a → (b : Bool) → ltb 4 (length (u .imports)) ≡ b → _≡_ {A = ℕ} (cond a 12 (cond b 13 (cond (not (isSome (at (u .name) vs)) && leb 24 (length vs)) 14 0))) 0 → (length (u .source) ≤ 512) × (length (u .imports) ≤ 4)

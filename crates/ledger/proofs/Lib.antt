@@ -1,3 +1,5 @@
 pub mod Alike
 pub mod Builds
 pub mod Keeping
+pub mod Mirror
+pub mod Shelves

@@ -1,8 +1,11 @@
 pub mod Agrees
 pub mod Fresh
 pub mod Kept
+pub mod Ledger
 pub mod Linking
 pub mod Meaning
+pub mod Mirrored
 pub mod Runs
 pub mod Shelf
 pub mod Sound
+pub mod Stored

@@ -1,22 +1,20 @@
 -- Records one behind the other: reading them back, marking one dead, keeping the live ones.
-use mathlib.Core.Path.{_≡_, refl, sym, ap, subst, _∙_}
-use mathlib.Core.Logic.{_⊎_, inl, inr, ⊎-elim, _≢_}
-use mathlib.Core.Bool.{Bool, true, false, cond, _&&_, _||_}
+use mathlib.Core.Path.{_≡_, refl, sym, ap, _∙_}
+use mathlib.Core.Bool.{true, false, _&&_}
 use mathlib.Core.List.{List, [], _∷_, _++_, append-assoc}
-use Prim.Native.Nat.{ℕ, zero, suc, min, _+_, _-_, _*_, _<_, _≤_}
+use Prim.Native.Nat.{ℕ, zero, suc, _+_, _-_, _*_, _<_, _≤_}
 use native.Mathlib.Omega.{arith}
 use lib.Dec.{eqb, leb}
-use lib.ListN.{length, getD, take, drop, set, length-append, length-set, length-drop, length-take}
-use Rattle.std.specs.Joined.{joined}
+use lib.ListN.{length, getD, take, drop, length-append, length-drop}
 use Rattle.std.specs.shelf.Text.{sameBytes}
-use Rattle.std.proofs.shelf.Tests.{true≢false, cases-lt, cases-eq, and-parts, and-from, eqb-true, eq-eqb, leb-true, le-leb, or-parts, or-from}
-use Rattle.std.proofs.shelf.Lists.{append-nil, getD-set-other, take-at, drop-at, take-append-drop, getD-append-left, getD-take, take-take, drop-take, drop-drop, drop-append-le, take-append-le, nil-from-length, take-rest}
+use Rattle.std.proofs.shelf.Tests.{and-parts, and-from, eqb-true, leb-true, or-from}
+use Rattle.std.proofs.shelf.Lists.{append-nil, take-at, drop-at, take-append-drop, getD-append-left, drop-append-le, take-append-le, nil-from-length, take-rest}
 use Rattle.std.specs.Holes.{between}
 use Rattle.store.specs.Pairs.{Pair, pair, lookup, has}
 use Rattle.store.proofs.Pairs.{by-test, same-is, has-append, lookup-at}
-use Rattle.std.specs.declared.option.Option.the-variants.{Some, None}
-use Rattle.area.specs.Layout.{header-size, slot-size, laid, live, key, size, content, holds, held}
-use Rattle.log.specs.Chain.{chain, records, bytes-of, exact, all-exact, log-pairs, marked, lives, Place-of}
+use Rattle.std.specs.declared.option.Option.the-variants.{Some}
+use Rattle.area.specs.Layout.{header-size, slot-size, live, key, size, content, holds, held}
+use Rattle.log.specs.Chain.{chain, records, bytes-of, exact, all-exact, log-pairs, lives, Place-of}
 
 -- the facts of an exact record
 pub exact-long : (p : List ℕ) → exact p ≡ true → length p ≡ header-size + (getD p 9 0 * 256 + getD p 10 0)

@@ -1,24 +1,22 @@
 -- What a mark, a slide and a new record at the end leave of a log.
 use mathlib.Core.Path.{_≡_, refl, sym, ap, subst, _∙_}
 use mathlib.Core.Bool.{Bool, true, false, not, cond, _&&_, _||_}
-use mathlib.Core.List.{List, [], _∷_, _++_, append-assoc}
-use Prim.Native.Nat.{ℕ, zero, suc, min, _+_, _-_, _*_, _/_, _%_, _<_, _≤_}
+use mathlib.Core.List.{List, [], _∷_, _++_}
+use Prim.Native.Nat.{ℕ, zero, suc, _+_, _-_, _*_, _<_, _≤_}
 use native.Mathlib.Nat.{sub-zero}
 use native.Mathlib.Omega.{arith}
 use lib.Dec.{eqb, leb, ltb}
-use lib.ListN.{length, getD, take, drop, set, length-append, length-set}
-use lib.Seq.{paste}
+use lib.ListN.{length, getD, take, set, length-append, length-set}
 use Rattle.std.specs.Options.{isSome, mapped}
 use Rattle.std.specs.declared.option.Option.{Option}
 use Rattle.std.specs.declared.option.Option.the-variants.{Some, None}
-use Rattle.std.specs.shelf.Text.{sameBytes}
-use Rattle.std.proofs.shelf.Tests.{true≢false, and-parts, and-from, eqb-true, eq-eqb, le-leb, leb-true, lt-leb, or-parts, cond-true, leb-false, le-ltb, lt-ltb}
+use Rattle.std.proofs.shelf.Tests.{true≢false, and-parts, and-from, eq-eqb, le-leb, lt-leb, or-parts, cond-true, leb-false, le-ltb, lt-ltb}
 use Rattle.std.proofs.shelf.Lists.{append-nil, getD-set-other, set-at, length-take-le, take-all}
 use Rattle.std.proofs.shelf.Edits.{take-paste}
-use Rattle.store.specs.Pairs.{Pair, pair, lookup, has, without, once, Same-pairs}
-use Rattle.store.proofs.Pairs.{by-test, same-is, same-refl, has-append, once-out, once-in, without-at, lookup-at, length-in, moved, lookup-without-same, length-without}
+use Rattle.store.specs.Pairs.{Pair, pair, has, without, once, Same-pairs}
+use Rattle.store.proofs.Pairs.{by-test, same-refl, has-append, once-out, once-in, without-at, lookup-at, length-in, moved, lookup-without-same, length-without}
 use Rattle.store.specs.Says.{Put-says}
-use Rattle.area.specs.Layout.{header-size, slot-size, longest, laid, live, key, size, content, holds, held, written}
+use Rattle.area.specs.Layout.{header-size, slot-size, laid, content, holds, held, written}
 use Rattle.area.proofs.Records.{held-laid, length-laid, eight}
 use Rattle.log.specs.Chain.{records, bytes-of, exact, all-exact, log-pairs, marked, lives, with-room, Place-of}
 use Rattle.log.proofs.Slid.{lives-le}

@@ -1,10 +1,10 @@
 -- Records moved to the front, one after another.
-use mathlib.Core.Path.{_≡_, refl, sym, ap, subst, _∙_}
-use mathlib.Core.Bool.{Bool, true, false, cond, _&&_, _||_}
+use mathlib.Core.Path.{_≡_, refl, sym, ap, _∙_}
+use mathlib.Core.Bool.{true, false}
 use mathlib.Core.List.{List, [], _∷_, _++_, append-assoc}
-use Prim.Native.Nat.{ℕ, zero, suc, min, _+_, _-_, _*_, _<_, _≤_}
+use Prim.Native.Nat.{ℕ, _+_, _-_, _<_, _≤_}
 use native.Mathlib.Omega.{arith}
-use lib.ListN.{length, getD, take, drop, set, length-append, length-drop, length-take}
+use lib.ListN.{length, getD, take, drop, set, length-append, length-drop}
 use lib.Seq.{paste}
 use Rattle.std.specs.Holes.{between}
 use Rattle.std.proofs.shelf.Parts.{between-is}
@@ -12,8 +12,8 @@ use Rattle.std.proofs.shelf.Edits.{paste-more, length-paste, drop-paste, take-p
 use Rattle.std.proofs.shelf.Lists.{getD-drop, drop-drop, take-at, append-nil, length-take-le, take-take}
 use Rattle.store.proofs.Pairs.{by-test}
 use Rattle.area.specs.Layout.{header-size, live, size}
-use Rattle.log.specs.Chain.{records, bytes-of, exact, all-exact, lives}
-use Rattle.log.proofs.Chained.{records-bytes, bytes-append, bytes-more, lives-append, size-front, live-front, exact-long, Cursor, Here, here, all-read, front-of}
+use Rattle.log.specs.Chain.{records, bytes-of, all-exact, lives}
+use Rattle.log.proofs.Chained.{records-bytes, bytes-append, bytes-more, lives-append, size-front, live-front, Cursor, Here, here, all-read}
 
 -- one byte more
 pub move-step : (xs ys : List ℕ) (from to k x : ℕ) → ys ≡ paste xs to (drop from xs) k → to ≤ from → from + k < length xs → x ≡ getD ys (from + k) x → set ys (to + k) x ≡ paste xs to (drop from xs) (k + 1)

@@ -2,6 +2,7 @@
 // It keeps the contract of every store, and says where each record lies.
 pub mod keep;
 pub mod logs;
+pub mod opening;
 pub mod scan;
 pub mod slide;
 pub mod steps;

@@ -1,68 +1,24 @@
-// Opening a log, and the three steps of a put: the old record marked dead, room made, the new record appended.
+// The three steps of a put: the old record marked dead, room made, the new record appended.
 ghost use mathlib.Core.Path.{_≡_};
 ghost use mathlib.Core.Bool.{true, false, not, _&&_};
 ghost use mathlib.Core.List.{List, [], _∷_, _++_};
 ghost use Prim.Native.Nat.{ℕ, _+_, _<_, _≤_};
 ghost use lib.Dec.{leb};
-ghost use lib.ListN.{length, take};
+ghost use lib.ListN.{length};
 ghost use Rattle.std.specs.Of.Vec.{vec-items, vec-len};
 ghost use Rattle.store.specs.Pairs.{pair, has, without};
-ghost use Rattle.area.specs.Layout.{header-size, slot-size, longest, rows-of, laid};
-ghost use Rattle.log.specs.Chain.{marked, with-room, bytes-of};
+ghost use Rattle.area.specs.Layout.{header-size, slot-size, longest, laid};
+ghost use Rattle.log.specs.Chain.{marked, with-room};
 ghost use Rattle.log.specs.Kept.{records-of, pairs-of};
 use crate::logs::LogStore;
 use crate::scan::find;
 use crate::slide::slide;
 use area::layout::HEADER;
 use area::record_at::bury;
-use area::record_at::rows;
 use area::record_at::write;
 use names::Name;
 
 impl LogStore {
-    // A store with no pair in the area, whatever bytes the area held; nothing is written.
-    pub fn open(area: Vec<u8>) -> LogStore
-        ensures rows { λ r. ⌜ r .rows ≡ rows-of (vec-len area) ⌝ }
-        ensures area { λ r. ⌜ r .area ≡ area ⌝ }
-        ensures none { λ r. ⌜ records-of r ≡ [] ⌝ }
-    {
-        let rows = rows(area.len());
-        LogStore {
-            area,
-            rows,
-            end: 0,
-            count: 0,
-        }
-    }
-
-    // The bytes of the area.
-    pub fn area(&self) -> &[u8]
-        ensures { λ r. ⌜ now r ≡ vec-items (now (self .entry) .area) ⌝ }
-    {
-        self.area.as_slice()
-    }
-
-    // Where the log ends: behind the last record, live or dead. Its records lie one behind the other up to there.
-    pub fn end(&self) -> usize
-        ensures end { λ r. ⌜ r ≡ now (self .entry) .end ⌝ }
-        ensures lie { λ r. ⌜ take r (vec-items (now (self .entry) .area)) ≡ bytes-of (records-of (now (self .entry))) ⌝ }
-    {
-        self.end
-    }
-
-    // Gives the area back.
-    pub fn close(self) -> Vec<u8>
-        ensures { λ r. ⌜ r ≡ self .area ⌝ }
-    {
-        let LogStore {
-            area,
-            rows: _,
-            end: _,
-            count: _,
-        } = self;
-        area
-    }
-
     // Whether the name is new and every row has its pair.
     pub(crate) fn is_full_for(&self, name: Name) -> bool
         ensures { λ r. ⌜ r ≡ (leb (now (self .entry) .rows) (length (pairs-of (now (self .entry)))) && not (has (pairs-of (now (self .entry))) (name .bytes))) ⌝ }

@@ -60,15 +60,15 @@ impl Interface {
     pub fn copy_from(&mut self, other: &Interface)
         ensures { λ _. ⌜ rows (now (self .exit)) ≡ rows (now (other .entry)) ⌝ }
     {
-        self.list.clear();
-        self.list.extend(other.list.as_slice());
+        self.clear();
+        self.list.extend(other.rows());
     }
 
     // The first row of a name.
     pub fn find(&self, name: Name) -> Option<Row>
         ensures { λ r. ⌜ r ≡ first-row (name .bytes) (rows (now (self .entry))) ⌝ }
     {
-        let rows = self.list.as_slice();
+        let rows = self.rows();
         for (i, row) in rows.iter().enumerate() {
             if row.name == name {
                 return Some(rows[i]);

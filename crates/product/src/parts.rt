@@ -48,12 +48,10 @@ impl Product {
     pub fn copy_from(&mut self, other: &Product)
         ensures { λ _. ⌜ parts (now (self .exit)) ≡ parts (now (other .entry)) ⌝ }
     {
+        self.clear();
         self.interface.copy_from(&other.interface);
-        self.code.clear();
         self.code.extend(other.code.as_slice());
-        self.entries.clear();
         self.entries.extend(other.entries.as_slice());
-        self.references.clear();
         self.references.extend(other.references.as_slice());
     }
 }

@@ -10,10 +10,12 @@ ghost use Rattle.std.specs.Vec.{made};
 ghost use Rattle.names.specs.Ordered.{by-name};
 ghost use Rattle.bounded.specs.Held.{held};
 ghost use Rattle.names.specs.Refusals.{answer};
-ghost use Rattle.project.specs.Members.{members};
+ghost use Rattle.std.specs.Options.{mapped};
+ghost use Rattle.project.specs.Members.{member, members};
 ghost use Rattle.order.specs.Dependency.{placed, smallest, ordered};
 ghost use Rattle.project.specs.Checked.{order-of, Arranged, lack, lack-at, lacks, needs-for, names as names-of, needs as needs-of, checked, verdict-number, shown};
 use crate::links::Links;
+use crate::unit::Unit;
 use crate::whole::Project;
 use bounded::Bounded;
 use names::Name;
@@ -81,6 +83,16 @@ fn list_whole(whole: &mut Bounded<usize, 24>, project: &Project)
 }
 
 impl Project {
+    // The unit at a place.
+    pub fn unit(&self, i: usize) -> Option<&Unit>
+        ensures { λ r. ⌜ mapped (λ u. member (now u)) r ≡ nth (members (now (self .entry))) i ⌝ }
+    {
+        if i >= self.count {
+            return None;
+        }
+        Some(&self.table.rows[i])
+    }
+
     // The name of the unit at a place.
     pub fn name(&self, i: usize) -> Option<Name>
         ensures { λ r. ⌜ r ≡ nth (names-of (members (now (self .entry)))) i ⌝ }

@@ -9,4 +9,5 @@ pub mod unit;
 pub mod whole;
 
 pub use links::Links;
+pub use unit::Unit;
 pub use whole::Project;

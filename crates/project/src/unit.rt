@@ -38,4 +38,18 @@ impl Unit {
         self.source.clear();
         self.source.extend(source);
     }
+
+    // The names that it imports.
+    pub fn imports(&self) -> &[Name]
+        ensures { λ r. ⌜ now r ≡ member (now (self .entry)) .imports ⌝ }
+    {
+        self.imports.as_slice()
+    }
+
+    // Its source.
+    pub fn source(&self) -> &[u8]
+        ensures { λ r. ⌜ now r ≡ member (now (self .entry)) .source ⌝ }
+    {
+        self.source.as_slice()
+    }
 }

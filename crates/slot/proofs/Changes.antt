@@ -2,24 +2,22 @@
 use mathlib.Core.Path.{_≡_, refl, sym, ap, subst, _∙_}
 use mathlib.Core.Logic.{_⊎_, inl, inr, ⊎-elim, _≢_}
 use mathlib.Core.Bool.{Bool, true, false, cond, _&&_, _||_}
-use mathlib.Core.List.{List, [], _∷_, _++_, append-assoc}
-use Prim.Native.Nat.{ℕ, zero, suc, min, _+_, _-_, _*_, _<_, _≤_}
-use native.Mathlib.Nat.{zero-add, add-zero}
+use mathlib.Core.List.{List, [], _∷_, _++_}
+use Prim.Native.Nat.{ℕ, zero, suc, _+_, _-_, _*_, _<_, _≤_}
+use native.Mathlib.Nat.{add-zero}
 use native.Mathlib.Omega.{arith}
-use lib.ListN.{length, getD, take, drop, set, length-append, length-set}
-use lib.Seq.{paste}
-use Rattle.std.specs.Holes.{between}
+use lib.ListN.{length, getD, take, drop, set, length-append}
 use Rattle.std.specs.shelf.Text.{sameBytes}
 use Rattle.std.proofs.shelf.Tests.{cases-lt, cases-eq, and-parts, or-left, or-right, lt-ltb, and-from, le-leb, le-ltb, cond-true}
-use Rattle.std.proofs.shelf.Lists.{append-nil, getD-set-same, getD-set-other, set-past, getD-past, take-take, drop-drop, drop-at, length-take-le, take-set-le, drop-set-lt, take-at, take-append-drop}
+use Rattle.std.proofs.shelf.Lists.{getD-set-same, getD-set-other, set-past, getD-past, take-take, drop-drop, drop-at, length-take-le, take-set-le, drop-set-lt, take-at, take-append-drop}
 use Rattle.std.proofs.shelf.Parts.{between-is}
-use Rattle.std.proofs.shelf.Edits.{getD-between, paste-all, take-paste, drop-paste}
+use Rattle.std.proofs.shelf.Edits.{getD-between, paste-all, drop-paste}
 use Rattle.std.specs.Options.{isSome}
-use Rattle.std.specs.declared.option.Option.the-variants.{Some, None}
+use Rattle.std.specs.declared.option.Option.the-variants.{Some}
 use lib.Dec.{ltb, leb}
 use Rattle.store.specs.Says.{put-number}
 use Rattle.store.specs.Pairs.{Pair, pair, lookup, has, without, once, Same-pairs}
-use Rattle.store.proofs.Pairs.{by-test, same-is, has-append, put-over, put-new, once-out, without-at, lookup-at}
+use Rattle.store.proofs.Pairs.{by-test, same-is, put-over, put-new, once-out, without-at, lookup-at}
 use Rattle.area.specs.Layout.{rows-of, slot-size, laid, live, key, content, holds, held, written}
 use Rattle.area.proofs.Records.{held-laid, length-laid}
 use Rattle.slot.specs.Slots.{slot, gather, slot-pairs, cleared, Slot-of, Slot-for}

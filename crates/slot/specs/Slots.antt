@@ -1,10 +1,10 @@
 -- An area as slots, each of which holds at most one record.
 use mathlib.Core.Path.{_≡_}
-use mathlib.Core.Bool.{Bool, true, false}
-use mathlib.Core.List.{List, [], _∷_, _++_}
+use mathlib.Core.Bool.{true, false}
+use mathlib.Core.List.{List, [], _++_}
 use mathlib.Core.Logic.{_⊎_}
 use Prim.Native.Nat.{ℕ, zero, suc, _+_, _*_, _<_}
-use lib.ListN.{length, set}
+use lib.ListN.{set}
 use Rattle.std.specs.Holes.{between}
 use Rattle.store.specs.Pairs.{Pair, has}
 use Rattle.area.specs.Layout.{slot-size, live, holds, held}

@@ -2,20 +2,19 @@
 use mathlib.Core.Path.{_≡_, refl, sym, ap, subst, _∙_}
 use mathlib.Core.Bool.{Bool, true, false, cond}
 use mathlib.Core.List.{List, [], _∷_, _++_}
-use Prim.Native.Nat.{ℕ, suc, _+_, _-_, _<_, _≤_}
+use Prim.Native.Nat.{ℕ, _+_, _-_, _<_}
 use native.Mathlib.Omega.{arith}
 use lib.Dec.{eqb}
 use lib.ListN.{length, take, getD}
 use Rattle.std.proofs.shelf.Lists.{take-more}
 use Rattle.std.specs.Options.{isSome}
 use Rattle.std.specs.shelf.Text.{sameBytes}
-use Rattle.std.specs.declared.option.Option.{Option}
 use Rattle.std.specs.declared.option.Option.the-variants.{Some, None}
 use Rattle.store.specs.declared.call.Call.{Call}
 use Rattle.store.specs.Pairs.{Pair, pair, lookup, has, without, once, Same-pairs}
 use Rattle.store.specs.Says.{put-number, put-pairs, Put-says, Drop-says}
 use Rattle.store.specs.Runs.{standing, names-standing, put-due, told, told-all, Stands}
-use Rattle.store.proofs.Pairs.{by-test, same-is, same-refl, lookup-without-other, lookup-without-same, length-without}
+use Rattle.store.proofs.Pairs.{by-test, same-is, lookup-without-other, lookup-without-same, length-without}
 
 module _ (past newer : List Call) (q bs : List ℕ) (before after : List Pair) (stands : Stands past before) where
   held : has before q ≡ isSome (standing past q)

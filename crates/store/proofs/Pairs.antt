@@ -1,9 +1,8 @@
 -- Lists of pairs: look-ups, a pair taken out, put in or moved.
 use mathlib.Core.Path.{_≡_, refl, sym, ap, subst, _∙_}
-use mathlib.Core.Logic.{_⊎_, inl, inr, ⊎-elim}
-use mathlib.Core.Bool.{Bool, true, false, not, cond, _&&_, _||_}
+use mathlib.Core.Bool.{Bool, true, false, not, cond, _||_}
 use mathlib.Core.List.{List, [], _∷_, _++_}
-use Prim.Native.Nat.{ℕ, suc, _+_, _-_, _≤_}
+use Prim.Native.Nat.{ℕ, suc, _+_, _-_}
 use native.Mathlib.Omega.{arith}
 use lib.ListN.{length, length-append}
 use Rattle.std.specs.Options.{isSome}
@@ -11,7 +10,7 @@ use Rattle.std.specs.shelf.Text.{sameBytes}
 use Rattle.std.specs.declared.option.Option.{Option}
 use Rattle.std.specs.declared.option.Option.the-variants.{Some, None}
 use Rattle.std.proofs.shelf.Equals.{sameBytes-decides}
-use Rattle.std.proofs.shelf.Tests.{true≢false, cases-bool, and-parts, and-from, not-true, not-from-false, or-parts}
+use Rattle.std.proofs.shelf.Tests.{true≢false, and-parts, and-from, not-true, not-from-false, or-parts}
 use Rattle.store.specs.Pairs.{Pair, pair, lookup, has, without, once, Same-pairs}
 
 -- a proof by the two values of a test

@@ -1,4 +1,4 @@
-use mathlib.Core.Path.{_≡_, sym, _∙_}
+use mathlib.Core.Path.{sym, _∙_}
 use Rattle.area.specs.Layout.{held}
 use Rattle.slot.specs.Slots.{slot}
 use Rattle.slot.proofs.Gathered.{length-held, length-more}

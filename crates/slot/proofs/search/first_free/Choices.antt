@@ -1,7 +1,5 @@
 use mathlib.Core.Path.{_≡_}
-use mathlib.Core.Bool.{false}
 use lib.ListN.{length}
-use Rattle.store.specs.Pairs.{has}
 use Rattle.slot.specs.Slots.{slot-pairs}
 use Rattle.slot.proofs.search.first_free.Given as given
 

@@ -7,11 +7,10 @@ use lib.ListN.{length}
 use Rattle.std.specs.Of.Vec.{vec-items}
 use Rattle.std.specs.Options.{isSome}
 use Rattle.store.specs.declared.call.Call.{Call}
-use Rattle.store.specs.declared.call.Call.the-variants.{Put, Get, Drop}
-use Rattle.store.specs.declared.call.Answer.{Answer}
+use Rattle.store.specs.declared.call.Call.the-variants.{Put, Drop}
 use Rattle.store.specs.declared.call.Answer.the-variants.{Done, Nothing}
-use Rattle.store.specs.Says.{Put-says, Drop-says}
-use Rattle.store.specs.Runs.{Stands, Answers, told, due, done, asked, standing}
+use Rattle.store.specs.Says.{Put-says}
+use Rattle.store.specs.Runs.{Stands, told, due, done, standing}
 use Rattle.store.proofs.Leads.{put-is-due, put-leads, drop-leads}
 use Rattle.store.proofs.runs.act.Needs as need
 

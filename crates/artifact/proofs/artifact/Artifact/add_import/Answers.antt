@@ -5,6 +5,7 @@ use Prim.Native.Nat.{ℕ, _+_, _<_}
 use native.Mathlib.Omega.{arith}
 use lib.Dec.{ltb}
 use lib.ListN.{length, take, set}
+use Rattle.std.specs.Of.Vec.{vec-items}
 use Rattle.std.proofs.shelf.Tests.{lt-ltb, le-ltb}
 use Rattle.product.specs.Parts.{rows, parts}
 use Rattle.product.specs.declared.row.Row.{Row}
@@ -15,11 +16,11 @@ use Rattle.artifact.specs.declared.artifact.Artifact.{Artifact}
 use Rattle.artifact.proofs.Slots.{count-is, one-more}
 use Rattle.artifact.proofs.artifact.Artifact.add_import.Needs as need
 
-room : (a : Artifact) → a .count < 4 → true ≡ ltb (length (imported (take (a .count) (a .imports)))) 4
+room : (a : Artifact) → a .count < 4 → true ≡ ltb (length (imported (take (a .count) (vec-items (a .imports))))) 4
 room a h = sym (lt-ltb _ 4 (omega (arith, count-is a)))
 
-filled : (a : Artifact) (s : Interface) (rs : List Row) → a .count < 4 → rows s ≡ rs → imported (take (a .count + 1) (set (a .imports) (a .count) s)) ≡ imported (take (a .count) (a .imports)) ++ rs ∷ []
-filled a s rs h e = one-more (a .imports) (a .count) s (omega (arith, a .four)) ∙ ap (λ x. imported (take (a .count) (a .imports)) ++ x ∷ []) e
+filled : (a : Artifact) (s : Interface) (rs : List Row) → a .count < 4 → rows s ≡ rs → imported (take (a .count + 1) (set (vec-items (a .imports)) (a .count) s)) ≡ imported (take (a .count) (vec-items (a .imports))) ++ rs ∷ []
+filled a s rs h e = one-more (vec-items (a .imports)) (a .count) s (omega (arith, a .four, a .imports .ok .0)) ∙ ap (λ x. imported (take (a .count) (vec-items (a .imports))) ++ x ∷ []) e
 
 pub returns : need.returns
 returns c =

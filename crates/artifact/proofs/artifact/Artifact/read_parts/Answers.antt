@@ -43,4 +43,4 @@ joined bs cs ds es s is n r p e f all h g =
 
 pub returns : need.returns
 returns c =
-    joined (left (c .args .input .now)) (left (c .read-long .last .input)) (left (c .read-imports .last .input)) (left (c .read-product .last .input)) (held (c .read-long .last .into)) _ (c .in-Continue-count .count) (c .read-product .result) (parts (c .read-product .last .into)) (c .in-Continue-read-long .ensures tt) (c .in-Continue-count .ensures tt .parts) (c .in-Continue-count .ensures tt .four) (c .in-Continue-count .ensures tt .few) (c .read-product .ensures)
+    joined (left (c .args .input .now)) (left (c .read-long .last .input)) (left (c .read-imports .last .input)) (left (c .read-product .last .input)) (held (c .read-long .last .into)) _ (c .in-Continue-count .count) (c .read-product .result) (parts (c .read-product .last .into)) (c .in-Continue-read-long .ensures tt) (c .in-Continue-count .ensures tt .parts) (sym (c .read-imports .last .slots .ok .0) ∙ c .in-Continue-count .ensures tt .four) (c .in-Continue-count .ensures tt .few) (c .read-product .ensures)

@@ -4,6 +4,7 @@ use Prim.Native.Nat.{ℕ, _+_, _≤_}
 use native.Mathlib.Omega.{arith}
 use lib.Dec.{lit<}
 use lib.ListN.{length, take, length-take, length-map}
+use Rattle.std.specs.Of.Vec.{vec-items}
 use Rattle.std.specs.shelf.Lists.{All}
 use Rattle.std.proofs.shelf.Elements.{all-map}
 use Rattle.bounded.specs.Held.{held}
@@ -30,8 +31,8 @@ is-short : (a : Artifact) → Short (art a)
 is-short a =
     record {
       few-source = held-few (a .source);
-      few-imports = omega (arith, length-map (take (a .count) (a .imports)) rows, length-take (a .count) (a .imports), a .few);
-      imports = all-map (λ rs. length rs ≤ 12) rows (take (a .count) (a .imports)) (all-of (take (a .count) (a .imports)));
+      few-imports = omega (arith, length-map (take (a .count) (vec-items (a .imports))) rows, length-take (a .count) (vec-items (a .imports)), a .few);
+      imports = all-map (λ rs. length rs ≤ 12) rows (take (a .count) (vec-items (a .imports))) (all-of (take (a .count) (vec-items (a .imports))));
       few-rows = held-few (a .product .interface .list);
       few-code = held-few (a .product .code);
       few-entries = held-few (a .product .entries);

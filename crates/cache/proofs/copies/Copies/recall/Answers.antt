@@ -1,16 +1,14 @@
 use borrow.Author.Needs.{needs}
-use mathlib.Core.Path.{_≡_, sym, ap, subst, _∙_}
-use mathlib.Core.List.{List, map}
+use mathlib.Core.Path.{_≡_, sym, ap, _∙_}
+use mathlib.Core.List.{map}
 use native.Mathlib.Omega.{arith}
-use Prim.Native.Nat.{ℕ, _≤_}
+use Prim.Native.Nat.{_≤_}
 use lib.ListN.{length, length-map}
-use Rattle.std.specs.declared.option.Option.{Option}
-use Rattle.std.specs.declared.option.Option.the-variants.{Some, None}
+use Rattle.std.specs.declared.option.Option.the-variants.{Some}
 use Rattle.std.specs.Of.Vec.{vec-items, vec-len}
 use Rattle.store.specs.Pairs.{lookup}
 use Rattle.bounded.specs.Held.{held}
 use Rattle.cache.specs.Kept.{kept, copy-of}
-use Rattle.cache.specs.Recent.{Place-of}
 use Rattle.cache.proofs.Copying.{place-copy, touch-admits, got-all, after-got, after-refused}
 use Rattle.cache.proofs.copies.Copies.recall.Needs as need
 

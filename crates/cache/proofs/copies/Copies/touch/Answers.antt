@@ -1,14 +1,11 @@
-use mathlib.Core.Path.{_≡_, sym, ap, _∙_}
+use mathlib.Core.Path.{_≡_, ap, _∙_}
 use mathlib.Core.Bool.{true}
 use mathlib.Core.List.{List, _∷_, map}
 use native.Mathlib.Omega.{arith}
-use Prim.Native.Nat.{_<_}
 use lib.ListN.{length}
-use Rattle.std.specs.Holes.{inserted}
 use Rattle.std.specs.Results.{isOk}
-use Rattle.std.specs.Of.Vec.{vec-items, vec-len, vec-cap}
+use Rattle.std.specs.Of.Vec.{vec-items, vec-len}
 use Rattle.std.proofs.shelf.Tests.{cond-true}
-use Rattle.store.specs.Pairs.{Pair}
 use Rattle.cache.specs.Kept.{copy-of}
 use Rattle.cache.specs.declared.copies.Copied.{Copied}
 use Rattle.cache.proofs.Copying.{kept-touched}

@@ -1,4 +1,4 @@
-use mathlib.Core.Path.{_≡_, sym, subst}
+use mathlib.Core.Path.{sym, subst}
 use mathlib.Core.List.{List}
 use Rattle.store.specs.Pairs.{Pair}
 use Rattle.cache.specs.Kept.{kept}

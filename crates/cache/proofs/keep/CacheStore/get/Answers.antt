@@ -5,13 +5,13 @@ use mathlib.Core.List.{List}
 use Prim.Native.Nat.{ℕ, _≤_}
 use lib.ListN.{length}
 use Rattle.std.specs.Options.{isSome, mapped, Cases}
-use Rattle.std.specs.declared.result.Result.the-variants.{Ok, Err}
+use Rattle.std.specs.declared.result.Result.the-variants.{Ok}
 use Rattle.std.specs.declared.option.Option.{Option}
 use Rattle.std.specs.declared.option.Option.the-variants.{Some, None}
 use Rattle.std.proofs.shelf.Results.{made-from-err}
-use Rattle.names.specs.Refusals.{answer, number}
+use Rattle.names.specs.Refusals.{answer}
 use Rattle.store.specs.Pairs.{Pair, lookup}
-use Rattle.store.specs.Says.{Get-says, Within, get-number, get-buffer}
+use Rattle.store.specs.Says.{Get-says, Within, get-buffer}
 use Rattle.cache.specs.Kept.{kept}
 use Rattle.cache.specs.Recent.{True-copies, after-get}
 use Rattle.cache.proofs.Trusted.{get-true, same-below, refused-found, told-found, told-none, hit-says, hit-kept, within-some}

@@ -1,5 +1,5 @@
 use borrow.Author.Needs.{needs}
-use mathlib.Core.Path.{_≡_, sym, _∙_}
+use mathlib.Core.Path.{sym, _∙_}
 use Rattle.store.specs.Pairs.{lookup}
 use Rattle.cache.specs.Kept.{kept}
 use Rattle.cache.proofs.Copying.{fetched}

@@ -16,7 +16,7 @@ returns-then-not-all-present c =
     let p = every (present (units i .entries)) in
     let h : c .loop-k .k < length (held (i .names)) = omega (arith, c .loop-k-test .taken, c .len-k-end .ensures) in
     every-stops (every p) p (λ _ _. refl) (units i .references) (c .loop-k .k) [] (omega (arith, column-length (i .references) (length (held (i .names))) (few-units i))) (c .loop-k .inv)
-    (sym (ap p (c .list .ensures (length (held (i .names))) h)) ∙ sym (c .all-present .ensures) ∙ c .if-not-all-present .taken)
+    (sym (ap p (c .list .ensures .value (length (held (i .names))) h)) ∙ sym (c .all-present .ensures) ∙ c .if-not-all-present .taken)
 
 pub loop-k-again : need.loop-k-again
 loop-k-again c =
@@ -24,7 +24,7 @@ loop-k-again c =
     let p = every (present (units i .entries)) in
     let h : c .loop-k .k < length (held (i .names)) = omega (arith, c .loop-k-test .taken, c .len-k-end .ensures) in
     every-goes (every p) p (λ _ _. refl) (units i .references) (c .loop-k .k) [] (omega (arith, column-length (i .references) (length (held (i .names))) (few-units i))) (c .loop-k .inv)
-    (sym (ap p (c .list .ensures (length (held (i .names))) h)) ∙ sym (c .all-present .ensures) ∙ c .if-not-all-present .left)
+    (sym (ap p (c .list .ensures .value (length (held (i .names))) h)) ∙ sym (c .all-present .ensures) ∙ c .if-not-all-present .left)
 
 pub returns : need.returns
 returns c =

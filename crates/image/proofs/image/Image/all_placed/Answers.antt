@@ -33,14 +33,14 @@ returns-then-not-all-below c =
     let i = c .args .self .now in
     let n = length (held (i .names)) in
     let h : c .loop-k .k < n = omega (arith, c .loop-k-test .taken, c .len-k-end .ensures) in
-    stops (units i .codes) (units i .entries) (c .loop-k .k) (c .list-in-loop-k .result .now) (c .list .result .now) (c .all-below .result) (omega (arith, column-length (i .codes) n (few-units i))) (omega (arith, column-length (i .entries) n (few-units i))) (c .list-in-loop-k .ensures n h) (c .list .ensures n h) (c .loop-k .inv) (c .all-below .ensures) (c .if-not-all-below .taken)
+    stops (units i .codes) (units i .entries) (c .loop-k .k) (c .list-in-loop-k .result .now) (c .list .result .now) (c .all-below .result) (omega (arith, column-length (i .codes) n (few-units i))) (omega (arith, column-length (i .entries) n (few-units i))) (c .list-in-loop-k .ensures .value n h) (c .list .ensures .value n h) (c .loop-k .inv) (c .all-below .ensures) (c .if-not-all-below .taken)
 
 pub loop-k-again : need.loop-k-again
 loop-k-again c =
     let i = c .args .self .now in
     let n = length (held (i .names)) in
     let h : c .loop-k .k < n = omega (arith, c .loop-k-test .taken, c .len-k-end .ensures) in
-    goes (units i .codes) (units i .entries) (c .loop-k .k) (c .list-in-loop-k .result .now) (c .list .result .now) (c .all-below .result) (omega (arith, column-length (i .codes) n (few-units i))) (omega (arith, column-length (i .entries) n (few-units i))) (c .list-in-loop-k .ensures n h) (c .list .ensures n h) (c .loop-k .inv) (c .all-below .ensures) (c .if-not-all-below .left)
+    goes (units i .codes) (units i .entries) (c .loop-k .k) (c .list-in-loop-k .result .now) (c .list .result .now) (c .all-below .result) (omega (arith, column-length (i .codes) n (few-units i))) (omega (arith, column-length (i .entries) n (few-units i))) (c .list-in-loop-k .ensures .value n h) (c .list .ensures .value n h) (c .loop-k .inv) (c .all-below .ensures) (c .if-not-all-below .left)
 
 pub returns : need.returns
 returns c =

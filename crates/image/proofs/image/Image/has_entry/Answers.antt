@@ -24,7 +24,7 @@ pub returns-then-unit-len : need.returns-then-unit-len
 returns-then-unit-len c =
     let i = c .args .self .now in
     let n = length (held (i .names)) in
-    here (lists n (i .entries)) (c .args .t) (c .from .result) (c .from-unit .result) (c .list .result .now) (c .from .ensures) (c .from-unit .ensures) (c .list .ensures n (omega (arith, c .if-unit-len .taken, c .len .ensures)))
+    here (lists n (i .entries)) (c .args .t) (c .from .result) (c .from-unit .result) (c .list .result .now) (c .from .ensures) (c .from-unit .ensures) (c .list .ensures .value n (omega (arith, c .if-unit-len .taken, c .len .ensures)))
 
 pub returns-else-unit-len : need.returns-else-unit-len
 returns-else-unit-len c =

@@ -1,13 +1,13 @@
-use mathlib.Core.Path.{_≡_, refl, ap, sym, subst, _∙_}
-use mathlib.Core.Bool.{Bool, true, false, not, _&&_}
+use mathlib.Core.Path.{_≡_, ap, sym, _∙_}
+use mathlib.Core.Bool.{false, not, _&&_}
 use mathlib.Core.List.{List, _∷_, _++_, []}
 use native.Mathlib.Omega.{arith}
 use Prim.Native.Nat.{ℕ, _+_, _≤_, _<_}
 use lib.Dec.{leb}
 use lib.ListN.{length}
-use Rattle.std.specs.Of.Vec.{vec-items, vec-len}
+use Rattle.std.specs.Of.Vec.{vec-len}
 use Rattle.store.specs.Pairs.{Pair, pair, has, without}
-use Rattle.area.specs.Layout.{laid, slot-size}
+use Rattle.area.specs.Layout.{laid}
 use Rattle.log.specs.Chain.{with-room, marked}
 use Rattle.log.specs.Kept.{records-of, pairs-of}
 use Rattle.log.proofs.Marks.{row-left, put-goes}

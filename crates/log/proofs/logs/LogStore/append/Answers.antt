@@ -1,14 +1,13 @@
-use mathlib.Core.Path.{_≡_, refl, ap, sym, subst, _∙_}
-use mathlib.Core.List.{List}
+use mathlib.Core.Path.{_≡_, refl, ap, sym, _∙_}
 use native.Mathlib.Omega.{arith}
-use Prim.Native.Nat.{ℕ, _+_, _-_, _*_, _≤_, _<_}
+use Prim.Native.Nat.{ℕ, _+_, _-_, _≤_}
 use lib.ListN.{length, take}
 use Rattle.std.specs.Of.Vec.{vec-items, vec-len}
 use Rattle.store.specs.Pairs.{once}
 use Rattle.area.specs.Layout.{rows-of}
 use Rattle.area.proofs.Records.{name-length}
 use Rattle.log.specs.Chain.{records, log-pairs}
-use Rattle.log.proofs.Marks.{Longer, longer-by, once-more, length-more}
+use Rattle.log.proofs.Marks.{longer-by, once-more, length-more}
 use Rattle.log.proofs.logs.LogStore.append.Needs as need
 
 pub ghost-self : need.ghost-self

@@ -1,15 +1,15 @@
 use mathlib.Core.Path.{_≡_, refl, ap, sym, subst, _∙_}
-use mathlib.Core.Bool.{true, false}
+use mathlib.Core.Bool.{false}
 use mathlib.Core.List.{List}
 use native.Mathlib.Omega.{arith}
-use Prim.Native.Nat.{ℕ, _+_, _-_, _≤_}
+use Prim.Native.Nat.{ℕ, _-_, _≤_}
 use lib.ListN.{length, take}
 use Rattle.std.specs.Of.Vec.{vec-items, vec-len}
 use Rattle.store.specs.Pairs.{has}
 use Rattle.store.proofs.Pairs.{without-none}
 use Rattle.area.specs.Layout.{rows-of}
 use Rattle.log.specs.Chain.{records, log-pairs}
-use Rattle.log.proofs.Marks.{Ended, ended-by, marked-none, cut}
+use Rattle.log.proofs.Marks.{ended-by, marked-none, cut}
 use Rattle.log.proofs.logs.LogStore.end_pair.Needs as need
 
 pub sub-self : need.sub-self

@@ -1,13 +1,11 @@
-use mathlib.Core.Path.{_≡_, refl, ap, sym, subst, _∙_}
-use mathlib.Core.List.{List}
+use mathlib.Core.Path.{_≡_, refl, ap, sym, _∙_}
 use native.Mathlib.Omega.{arith}
-use Prim.Native.Nat.{ℕ, _+_, _-_, _*_, _≤_, _<_}
-use lib.ListN.{length, take}
+use Prim.Native.Nat.{_+_, _-_, _*_, _≤_, _<_}
+use lib.ListN.{length}
 use Rattle.std.specs.Of.Vec.{vec-items, vec-len}
 use Rattle.store.specs.Pairs.{once}
 use Rattle.area.specs.Layout.{rows-of, slot-size}
-use Rattle.log.specs.Chain.{records, log-pairs}
-use Rattle.log.proofs.Marks.{Roomy, roomy-as-is, roomy-slid, slid-fits, slid-inside}
+use Rattle.log.proofs.Marks.{roomy-as-is, roomy-slid, slid-fits, slid-inside}
 use Rattle.log.proofs.logs.LogStore.make_room.Needs as need
 
 pub ghost-self : need.ghost-self

@@ -31,7 +31,7 @@ module _ (name : List ℕ) (xs : List Row) (i : ℕ) (x : Row) (t : Bool) (h : i
 
 pub returns-then-eq : need.returns-then-eq
 returns-then-eq c =
-    stops (c .args .name .bytes) _ _ (c .index-rows-i .result) _ (c .loop-i-test .taken) (c .index-rows-i .is) (c .loop-i .inv) (c .eq .ensures) (c .if-eq .taken) _ (c .index-rows-i-then-eq .is) ∙ ap (first-row (c .args .name .bytes)) (c .as-slice-rows .ensures)
+    stops (c .args .name .bytes) _ _ (c .index-rows-i .result) _ (c .loop-i-test .taken) (c .index-rows-i .is) (c .loop-i .inv) (c .eq .ensures) (c .if-eq .taken) _ (c .index-rows-i-then-eq .is) ∙ ap (first-row (c .args .name .bytes)) (c .rows-rows .ensures)
 
 pub loop-i-again : need.loop-i-again
 loop-i-again c =
@@ -39,4 +39,4 @@ loop-i-again c =
 
 pub returns : need.returns
 returns c =
-    sym (at-drop-all (first-row (c .args .name .bytes)) _ _ (c .loop-i-test .left)) ∙ c .loop-i .inv ∙ ap (first-row (c .args .name .bytes)) (c .as-slice-rows .ensures)
+    sym (at-drop-all (first-row (c .args .name .bytes)) _ _ (c .loop-i-test .left)) ∙ c .loop-i .inv ∙ ap (first-row (c .args .name .bytes)) (c .rows-rows .ensures)

@@ -1,10 +1,10 @@
 use mathlib.Core.Path.{_≡_, refl, ap, sym, subst, _∙_}
-use mathlib.Core.Bool.{true, false}
+use mathlib.Core.Bool.{false}
 use mathlib.Core.List.{List}
 use Prim.Native.Nat.{ℕ}
 use Rattle.std.specs.Of.Vec.{vec-items}
 use Rattle.std.specs.Options.{isSome}
-use Rattle.store.specs.Pairs.{Pair, has, once}
+use Rattle.store.specs.Pairs.{has, once}
 use Rattle.store.proofs.Pairs.{same-pairs-is, without-none}
 use Rattle.area.specs.Layout.{rows-of}
 use Rattle.slot.specs.Slots.{slot-pairs, Slot-of}

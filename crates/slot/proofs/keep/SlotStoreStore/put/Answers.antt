@@ -1,15 +1,12 @@
-use mathlib.Core.Path.{_≡_, refl, ap, sym, subst, _∙_}
-use mathlib.Core.Bool.{true}
+use mathlib.Core.Path.{refl, ap, sym, subst, _∙_}
 use mathlib.Core.List.{List}
-use Prim.Native.Nat.{ℕ, _≤_}
+use Prim.Native.Nat.{ℕ}
 use lib.ListN.{length}
 use Rattle.std.specs.Of.Vec.{vec-items, vec-len}
-use Rattle.store.specs.Pairs.{has, once}
-use Rattle.store.specs.Says.{put-number}
 use Rattle.area.specs.Layout.{rows-of}
 use Rattle.area.proofs.Records.{name-length}
-use Rattle.slot.specs.Slots.{slot-pairs, Slot-for}
-use Rattle.slot.proofs.Changes.{put-done, Puts}
+use Rattle.slot.specs.Slots.{Slot-for}
+use Rattle.slot.proofs.Changes.{put-done}
 use Rattle.slot.proofs.keep.SlotStoreStore.put.Needs as need
 
 pub ghost-self : need.ghost-self

@@ -1,0 +1,5 @@
+pub mod Comparing
+pub mod Finishing
+pub mod Found
+pub mod Prepared
+pub mod Viewed
