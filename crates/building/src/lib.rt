@@ -1,5 +1,7 @@
 // The parts of a build: the products of the units built so far, what a unit would be stored as, and whether a stored artifact is
 // current. The manager's build goes unit by unit through these.
+#![tactic(auto)]
+
 pub mod course;
 pub mod desk;
 pub mod done;

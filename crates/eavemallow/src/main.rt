@@ -1,4 +1,6 @@
 // The program `eavemallow`: one word for each thing it does. What matters is in the libraries below; this reads files and prints.
+#![tactic(auto)]
+
 mod files;
 mod instructions;
 mod listing;

@@ -1,5 +1,7 @@
 // An image: the linked units in link order, and its writing as bytes.
 // Reading takes any bytes and answers exactly what the format says; reading what was written gives the units, and writing what was read the bytes.
+#![tactic(auto)]
+
 pub mod check;
 pub mod column;
 pub mod columns;

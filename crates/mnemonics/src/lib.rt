@@ -1,4 +1,6 @@
 // The instructions of formula code, read from bytes and shown one by one. What shows images and artifacts stands on it.
+#![tactic(auto)]
+
 pub mod instruction;
 pub mod read;
 pub mod show;

@@ -1,10 +1,11 @@
 // Names are equal where their bytes are, and ordered bytewise.
-ghost use Rattle.std.specs.Prelude.{◌≡◌, ℕ, ◌<◌, Bool, IsSomeAnd, Decides};
-ghost use Rattle.std.specs.Ordering.{MatchOrdering};
-ghost use Rattle.names.specs.Ordered.{Bytewise};
+ghost use Rattle.std.specs.Prelude.{◌≡◌, Decides, nat_eq};
+ghost use Rattle.std.specs.Ordering.{on, as_partial_cmp};
+ghost use Rattle.std.specs.Str.{bytes_eq};
+ghost use Rattle.names.specs.Ordered.{bytewise};
+ghost use Rattle.std.specs.Cmp.{partial_order_from_own_ties};
 ghost use Rattle.std.specs.Cmp.Rules.{comparing};
-ghost use Rattle.std.proofs.Common.{rules, arith};
-ghost use Rattle.std.specs.Cmp as Keys;
+ghost use Rattle.std.proofs.Common.{rules};
 
 use crate::name::Name;
 use std::cmp::Ordering;
@@ -16,9 +17,9 @@ fn same(a: &[u8], b: &[u8]) -> bool
 }
 
 impl PartialEq for Name {
-    ghost equals = { λ a b r. Decides r (a.bytes ≡ b.bytes) };
+    ghost eq = { on (λ n. n.bytes) bytes_eq };
 
-    ghost laws = { Keys.partial_equiv_from_equiv (first_of (Prim.search (comparing, rules), Prim.grind (arith, Self.row.coded.inj))) };
+    ghost laws = { Prim.search (comparing, rules) };
 
     fn eq(&self, other: &Name) -> bool {
         same(&self.bytes, &other.bytes)
@@ -26,13 +27,13 @@ impl PartialEq for Name {
 }
 
 impl Eq for Name {
-    ghost laws = { first_of (Prim.search (comparing, rules), Prim.grind (arith, Self.row.coded.inj)) };
+    ghost laws = { Prim.search (comparing, rules) };
 }
 
 impl PartialOrd for Name {
-    ghost compares = { λ a b r. IsSomeAnd r (Bytewise a.bytes b.bytes) };
+    ghost partial_cmp = { as_partial_cmp (on (λ n. n.bytes) bytewise) };
 
-    ghost laws = { first_of (Prim.search (comparing, rules), Prim.grind (arith, Self.row.coded.inj)) };
+    ghost laws = { partial_order_from_own_ties (Prim.search (comparing, rules)) (Prim.search (comparing, rules)) };
 
     fn partial_cmp(&self, other: &Name) -> Option<Ordering> {
         Some(self.cmp(other))
@@ -40,13 +41,13 @@ impl PartialOrd for Name {
 }
 
 impl Ord for Name {
-    ghost orders = { λ a b r. Bytewise a.bytes b.bytes r };
+    ghost cmp = { on (λ n. n.bytes) bytewise };
 
-    ghost total = { first_of (Prim.search (comparing, rules), Prim.grind (arith, Self.row.coded.inj)) };
+    ghost total = { Prim.search (comparing, rules) };
 
-    ghost matches_partial_cmp = { first_of (Prim.search (comparing, rules), Prim.grind (arith, Self.row.coded.inj)) };
+    ghost matches_partial_cmp = { Prim.search (comparing, rules) };
 
-    ghost matches_eq = { first_of (Prim.search (comparing, rules), Prim.grind (arith, Self.row.coded.inj)) };
+    ghost matches_eq = { Prim.search (comparing, rules) };
 
     fn cmp(&self, other: &Name) -> Ordering {
         self.bytes[..].cmp(&other.bytes[..])

@@ -1,6 +1,8 @@
 // The dependency order, for every kind of key that has a total order: of the items whose needs are all placed, the smallest
 // key comes next, and of equal keys the earlier listed. `order` is proved to answer what `ordered` of the specifications
 // says, and that to be the only list that meets the rule. Units are linked in this order, by name.
+#![tactic(auto)]
+
 ghost use Rattle.std.specs.Prelude.{◌≡◌, ◌<◌, length, slice_index_or};
 ghost use Rattle.std.specs.Cmp.{IsTotalOrder};
 ghost use Rattle.std.specs.Ordering.{is_eq, is_lt};

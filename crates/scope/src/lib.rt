@@ -1,5 +1,7 @@
 // The names of a formula unit: which may be declared, and whether each that is used is known and of use where it stands.
 // Values and code stand on it.
+#![tactic(auto)]
+
 pub mod declared;
 pub mod imported;
 pub mod used;

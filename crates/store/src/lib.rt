@@ -1,4 +1,6 @@
 // What a store is: pairs of name and record, a number of rows and a record limit, and the law that every store keeps over whole runs.
+#![tactic(auto)]
+
 pub mod call;
 pub mod contract;
 pub mod runs;

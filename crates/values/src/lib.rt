@@ -1,5 +1,7 @@
 // The values of a formula unit's constants, in dependency order: a circle is told by the smallest line left, a value that does
 // not fit in 32 bits or a zero divisor by the constant's line. The code of functions stands on it.
+#![tactic(auto)]
+
 pub mod arithmetic;
 pub mod evaluation;
 pub mod known;

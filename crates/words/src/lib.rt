@@ -1,4 +1,6 @@
 // The words of a line: parted by spaces, up to a `#`, which begins a comment. Listings and scripts are read by these.
+#![tactic(auto)]
+
 ghost use Rattle.std.specs.Prelude.{◌≡◌, []};
 ghost use Rattle.std.specs.Option.{option_map};
 ghost use Rattle.std.specs.List.{slice_get};

@@ -8,22 +8,22 @@ use Rattle.order.proofs.fill.Goals as goal
 front : (count : ℕ) (xs : List ℕ) → take (count - 0) xs ≡ take count xs
 front count xs = ap (λ n. take n xs) (sub-zero count)
 
-pub slice-bounds-pick-end : goal.slice-bounds-pick-end
-slice-bounds-pick-end g c = omega arith
+pub slice_bounds-pick-end : goal.slice_bounds-pick-end
+slice_bounds-pick-end g c = omega arith
 
-pub slice-bounds-left-over-end : goal.slice-bounds-left-over-end
-slice-bounds-left-over-end g c = omega arith
+pub slice_bounds-left_over-end : goal.slice_bounds-left_over-end
+slice_bounds-left_over-end g c = omega arith
 
-pub shape-of-places-in-default : goal.shape-of-places-in-default
-shape-of-places-in-default g c = c.loop-count.invariant.2
+pub shape_of-places-in_default : goal.shape_of-places-in_default
+shape_of-places-in_default g c = c.loop-count.invariant.2
 
-pub returns-in-default : goal.returns-in-default
-returns-in-default g c =
+pub returns-in_default : goal.returns-in_default
+returns-in_default g c =
     let at = front c.loop-count.count c.loop-count.places in
     λ o. placing_sticks g.K.Ord.cmp c.args.keys.now c.args.needs.now c.loop-count.count c.loop-count.places c.args.places.now (c.loop-count.invariant.0 o) c.loop-count.invariant.1
-    _ c.unwrap-or.result c.loop-count-test.true (omega arith) (omega arith)
-    (c.in-default.ensures o ∙ ap (next g.K.Ord.cmp c.args.keys.now c.args.needs.now) at)
-    (c.unwrap-or.ensures ∙ ap (λ l. unwrap_or l 0) (c.left-over.ensures o ∙ ap (left g.K.Ord.cmp c.args.keys.now) at))
+    _ c.unwrap_or.result c.loop-count-test.true (omega arith) (omega arith)
+    (c.in_default.ensures o ∙ ap (next g.K.Ord.cmp c.args.keys.now c.args.needs.now) at)
+    (c.unwrap_or.ensures ∙ ap (λ l. unwrap_or l 0) (c.left_over.ensures o ∙ ap (left g.K.Ord.cmp c.args.keys.now) at))
     refl
 
 pub bounds-places-count : goal.bounds-places-count
@@ -38,8 +38,8 @@ loop-count-preserved g c =
       length-set c.loop-count.places c.loop-count.count c.in-Some.item ∙ c.loop-count.invariant.2,
     )
 
-pub shape-of-places : goal.shape-of-places
-shape-of-places g c = c.loop-count.invariant.2
+pub shape_of-places : goal.shape_of-places
+shape_of-places g c = c.loop-count.invariant.2
 
 pub returns : goal.returns
 returns g c =

@@ -2,15 +2,15 @@ use Rattle.std.proofs.Common.{◌≡◌, ℕ, ◌≤◌, length, sym, refl, ap, 
 use Rattle.order.proofs.Least.{Least, least_is, held_over, held_first, held_more, held_less}
 use Rattle.order.specs.Dependency.{ready}
 use Rattle.order.proofs.pick.Goals as goal
-use Rattle.order.proofs.pick.Goals.{then-is-ready+in-None, then-is-ready+in-Some+then-beats, then-is-ready+in-Some+else-beats, else-is-ready}
+use Rattle.order.proofs.pick.Goals.{then-is_ready+in-None, then-is_ready+in-Some+then-beats, then-is_ready+in-Some+else-beats, else-is_ready}
 
 pub loop-i-preserved : goal.loop-i-preserved
 loop-i-preserved g c =
-    elim c.if-is-ready.branch [
-      | then-is-ready+in-Some+else-beats w ↦ held_more _ c.args.keys.now c.args.needs.now c.args.done.now _ c.is-ready.result c.is-ready.ensures _ _ _ c.loop-i.invariant w.in-Some.is _ w.beats.ensures w.if-beats.false w.best-is
-      | then-is-ready+in-Some+then-beats w ↦ held_less _ c.args.keys.now c.args.needs.now c.args.done.now _ c.is-ready.result c.is-ready.ensures _ _ _ c.loop-i.invariant w.in-Some.is _ w.beats.ensures c.loop-i-test.true w.if-is-ready.true w.if-beats.true w.best-is
-      | then-is-ready+in-None w ↦ held_first _ c.args.keys.now c.args.needs.now c.args.done.now _ c.is-ready.result c.is-ready.ensures _ _ c.loop-i-test.true c.loop-i.invariant w.in-None.is w.best-is w.if-is-ready.true
-      | else-is-ready w ↦ held_over _ c.args.keys.now c.args.needs.now c.args.done.now _ c.is-ready.result c.is-ready.ensures _ _ c.loop-i.invariant w.best-is w.if-is-ready.false
+    elim c.if-is_ready.branch [
+      | then-is_ready+in-Some+else-beats w ↦ held_more _ c.args.keys.now c.args.needs.now c.args.done.now _ c.is_ready.result c.is_ready.ensures _ _ _ c.loop-i.invariant w.in-Some.is _ w.beats.ensures w.if-beats.false w.best-is
+      | then-is_ready+in-Some+then-beats w ↦ held_less _ c.args.keys.now c.args.needs.now c.args.done.now _ c.is_ready.result c.is_ready.ensures _ _ _ c.loop-i.invariant w.in-Some.is _ w.beats.ensures c.loop-i-test.true w.if-is_ready.true w.if-beats.true w.best-is
+      | then-is_ready+in-None w ↦ held_first _ c.args.keys.now c.args.needs.now c.args.done.now _ c.is_ready.result c.is_ready.ensures _ _ c.loop-i-test.true c.loop-i.invariant w.in-None.is w.best-is w.if-is_ready.true
+      | else-is_ready w ↦ held_over _ c.args.keys.now c.args.needs.now c.args.done.now _ c.is_ready.result c.is_ready.ensures _ _ c.loop-i.invariant w.best-is w.if-is_ready.false
     ]
 
 pub returns : goal.returns

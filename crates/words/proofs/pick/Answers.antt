@@ -21,9 +21,9 @@ loop-i-preserved c =
             omega arith,
             elim w.if-start-i.branch [
               | then-start-i+else-left-eq0 v ↦
-                  passed xs s i goal c.loop-i.left c.loop-i.invariant.0 c.loop-i-test.true c.loop-i.invariant.1 c.if-line-i-eq32.left c.if-line-i-eq32.start w.if-line-i-eq32.true v.if-start-i.true v.if-left-eq0.false (w.left-is ∙ v.left_is) w.start-is
+                  passed xs s i goal c.loop-i.left c.loop-i.invariant.0 c.loop-i-test.true c.loop-i.invariant.1 c.if-line-i-eq32.left c.if-line-i-eq32.start w.if-line-i-eq32.true v.if-start-i.true v.if-left-eq0.false (w.left-is ∙ v.left-is) w.start-is
               | else-start-i v ↦
-                  subst (λ n. slice_get (split (part xs c.if-line-i-eq32.start (i + 1)) (drop (i + 1) xs)) n ≡ goal) (sym (w.left-is ∙ v.left_is))
+                  subst (λ n. slice_get (split (part xs c.if-line-i-eq32.start (i + 1)) (drop (i + 1) xs)) n ≡ goal) (sym (w.left-is ∙ v.left-is))
                   (blank xs s i goal c.loop-i.left c.loop-i.invariant.0 c.loop-i-test.true c.loop-i.invariant.1 c.if-line-i-eq32.start w.if-line-i-eq32.true v.if-start-i.false w.start-is)
             ],
           )

@@ -6,5 +6,5 @@ pub returns : goal.returns
 returns c =
     record {
       fits = search rules;
-      after = laid_twice c.args.area.now c.args.name.bytes c.args.content.now c.copy-from-slice.new.self c.copy-from-slice-2.new.self c.args.at _ _ (c.copy-from-slice.ensures.after ∙ c.header.ensures) c.copy-from-slice-2.ensures.after (omega arith) (omega arith) (name-length c.args.name.bytes c.args.name.valid) (omega arith);
+      after = laid_twice c.args.area.now c.args.name.bytes c.args.content.now c.copy_from_slice.new.self c.copy_from_slice-2.new.self c.args.at _ _ (c.copy_from_slice.ensures.after ∙ c.header.ensures) c.copy_from_slice-2.ensures.after (omega arith) (omega arith) (name-length c.args.name.bytes c.args.name.valid) (omega arith);
     }

@@ -9,10 +9,10 @@ returns c =
     let bs = c.args.content.now in
     let at = c.args.at in
     record {
-      fits = c.lay.ensures.fits ∙ ap (λ (n : ℕ). leb (length bs) longest && leb (at + (header_size + length bs)) n) c.as-mut-slice.ensures.len;
+      fits = c.lay.ensures.fits ∙ ap (λ (n : ℕ). leb (length bs) longest && leb (at + (header_size + length bs)) n) c.as_mut_slice.ensures.len;
       after =
-          take_at c.lay.new.area (drop (length c.lay.new.area) c.args.area.now.items) c.args.area.now.len (c.lay.auto.area ∙ c.as-mut-slice.ensures.len)
+          take_at c.lay.new.area (drop (length c.lay.new.area) c.args.area.now.items) c.args.area.now.len (c.lay.auto.area ∙ c.as_mut_slice.ensures.len)
           ∙ c.lay.ensures.after
-          ∙ ap (λ (x : List ℕ). cond c.lay.result (written x at q bs) x) c.as-mut-slice.ensures.value;
+          ∙ ap (λ (x : List ℕ). cond c.lay.result (written x at q bs) x) c.as_mut_slice.ensures.value;
       len = refl;
     }

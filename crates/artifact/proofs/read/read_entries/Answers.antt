@@ -4,12 +4,12 @@ use Rattle.codec.specs.Format.{left, every, listed, byte, pair}
 use Rattle.codec.proofs.Many.{tested_yes, tested_no}
 use Rattle.artifact.proofs.read.read_entries.Goals as goal
 
-pub returns-then-all-below : goal.returns-then-all-below
-returns-then-all-below c =
+pub returns-then-all_below : goal.returns-then-all_below
+returns-then-all_below c =
     let t = every (λ (e : ℕ). ltb e c.args.limit) in
-    tested_yes t ((listed byte 12 pair).get (left c.args.input.now)) (held c.read-short.new.into) (left c.read-short.new.input) c.in-ok-read-short.ensures (c.if-all-below.ensures ∙ ap t c.as-slice.ensures)
+    tested_yes t ((listed byte 12 pair).get (left c.args.input.now)) (held c.read_short.new.into) (left c.read_short.new.input) c.in_ok-read_short.ensures (c.if-all_below.ensures ∙ ap t c.as_slice.ensures)
 
-pub returns-else-all-below : goal.returns-else-all-below
-returns-else-all-below c =
+pub returns-else-all_below : goal.returns-else-all_below
+returns-else-all_below c =
     let t = every (λ (e : ℕ). ltb e c.args.limit) in
-    tested_no t ((listed byte 12 pair).get (left c.args.input.now)) (held c.read-short.new.into) (left c.read-short.new.input) c.in-ok-read-short.ensures (c.if-all-below.ensures ∙ ap t c.as-slice.ensures)
+    tested_no t ((listed byte 12 pair).get (left c.args.input.now)) (held c.read_short.new.into) (left c.read_short.new.input) c.in_ok-read_short.ensures (c.if-all_below.ensures ∙ ap t c.as_slice.ensures)

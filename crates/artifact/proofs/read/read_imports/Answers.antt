@@ -23,14 +23,14 @@ pub loop-k-init : goal.loop-k-init
 loop-k-init c =
     (c.requires, many_starts 4 c.from-count.result interface.get (left c.byte.new.self) (imported (take 0 (vec_items c.args.slots.now))) refl c.if-count-gt4.false)
 
-pub returns-in-err-read-short : goal.returns-in-err-read-short
-returns-in-err-read-short c =
+pub returns-in_err-read_short : goal.returns-in_err-read_short
+returns-in_err-read_short c =
     record {
       parts =
-          stopped c.from-residual-in-err-read-short.result _ (left c.read-short.new.input) _ c.from-residual-in-err-read-short.ensures
-          (counted c.from-count.result _ (left c.args.input.now) (left c.byte.new.self) None c.from-count.ensures c.in-ok-byte.ensures
-          (many_stops c.from-count.result c.loop-k.k interface.get (left c.loop-k.input) (imported (take c.loop-k.k (vec_items c.loop-k.slots))) _ c.loop-k-test.true c.loop-k.invariant.1 c.in-err-read-short.ensures));
-      few = MatchOption-from_none _ (λ n. n ≤ 4) c.from-residual-in-err-read-short.ensures;
+          stopped c.from_residual-in_err-read_short.result _ (left c.read_short.new.input) _ c.from_residual-in_err-read_short.ensures
+          (counted c.from-count.result _ (left c.args.input.now) (left c.byte.new.self) None c.from-count.ensures c.in_ok-byte.ensures
+          (many_stops c.from-count.result c.loop-k.k interface.get (left c.loop-k.input) (imported (take c.loop-k.k (vec_items c.loop-k.slots))) _ c.loop-k-test.true c.loop-k.invariant.1 c.in_err-read_short.ensures));
+      few = MatchOption-from_none _ (λ n. n ≤ 4) c.from_residual-in_err-read_short.ensures;
       four = c.loop-k.invariant.0;
     }
 
@@ -38,8 +38,8 @@ pub loop-k-preserved : goal.loop-k-preserved
 loop-k-preserved c =
     let h : c.loop-k.k < length (vec_items c.loop-k.slots) = omega (arith, c.loop-k.invariant.0, c.loop-k.slots.ok.0) in (
       c.loop-k.invariant.0,
-      ap (λ xs. onto xs (many (c.from-count.result - (c.loop-k.k + 1)) interface.get (left c.read-short.new.input))) (one_more (vec_items c.loop-k.slots) c.loop-k.k (record { list = c.read-short.new.into }) h)
-          ∙ many_goes c.from-count.result c.loop-k.k interface.get (left c.loop-k.input) (imported (take c.loop-k.k (vec_items c.loop-k.slots))) _ c.loop-k-test.true c.loop-k.invariant.1 _ _ c.in-ok-read-short.ensures,
+      ap (λ xs. onto xs (many (c.from-count.result - (c.loop-k.k + 1)) interface.get (left c.read_short.new.input))) (one_more (vec_items c.loop-k.slots) c.loop-k.k (record { list = c.read_short.new.into }) h)
+          ∙ many_goes c.from-count.result c.loop-k.k interface.get (left c.loop-k.input) (imported (take c.loop-k.k (vec_items c.loop-k.slots))) _ c.loop-k-test.true c.loop-k.invariant.1 _ _ c.in_ok-read_short.ensures,
     )
 
 pub returns : goal.returns
@@ -47,7 +47,7 @@ returns c =
     let e : c.loop-k.k ≡ c.from-count.result = omega arith in
     record {
       parts =
-          counted c.from-count.result _ (left c.args.input.now) (left c.byte.new.self) _ c.from-count.ensures c.in-ok-byte.ensures
+          counted c.from-count.result _ (left c.args.input.now) (left c.byte.new.self) _ c.from-count.ensures c.in_ok-byte.ensures
           (ap (λ n. Some (imported (take n (vec_items c.loop-k.slots)), left c.loop-k.input)) (sym e) ∙ many-ends c.from-count.result c.loop-k.k interface.get (left c.loop-k.input) (imported (take c.loop-k.k (vec_items c.loop-k.slots))) _ c.loop-k-test.false c.loop-k.invariant.1);
       few = c.if-count-gt4.false;
       four = c.loop-k.invariant.0;

@@ -5,12 +5,12 @@ use Rattle.codec.specs.Format.{left, every, listed, byte, reference}
 use Rattle.codec.proofs.Many.{tested_yes, tested_no}
 use Rattle.artifact.proofs.read.read_references.Goals as goal
 
-pub returns-then-all-known : goal.returns-then-all-known
-returns-then-all-known c =
+pub returns-then-all_known : goal.returns-then-all_known
+returns-then-all_known c =
     let t = every (λ (r : Reference). leb r.position c.args.imports) in
-    tested_yes t ((listed byte 32 reference).get (left c.args.input.now)) (held c.read-short.new.into) (left c.read-short.new.input) c.in-ok-read-short.ensures (c.if-all-known.ensures ∙ ap t c.as-slice.ensures)
+    tested_yes t ((listed byte 32 reference).get (left c.args.input.now)) (held c.read_short.new.into) (left c.read_short.new.input) c.in_ok-read_short.ensures (c.if-all_known.ensures ∙ ap t c.as_slice.ensures)
 
-pub returns-else-all-known : goal.returns-else-all-known
-returns-else-all-known c =
+pub returns-else-all_known : goal.returns-else-all_known
+returns-else-all_known c =
     let t = every (λ (r : Reference). leb r.position c.args.imports) in
-    tested_no t ((listed byte 32 reference).get (left c.args.input.now)) (held c.read-short.new.into) (left c.read-short.new.input) c.in-ok-read-short.ensures (c.if-all-known.ensures ∙ ap t c.as-slice.ensures)
+    tested_no t ((listed byte 32 reference).get (left c.args.input.now)) (held c.read_short.new.into) (left c.read_short.new.input) c.in_ok-read_short.ensures (c.if-all_known.ensures ∙ ap t c.as_slice.ensures)

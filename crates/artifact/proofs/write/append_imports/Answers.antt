@@ -19,8 +19,8 @@ loop-slot-preserved c =
     let xs = c.args.slots.now in
     let i = c.loop-slot.slot-index in
     let x = c.slot-item.result in
-    adds_as (held c.args.out.now) (each put (take i xs) ++ put x) (each put (take (i + 1) xs)) (held c.append-short.new.out) (ap (λ y. each put (take i xs) ++ put y) c.slot-item.is ∙ each_more put xs i x c.loop-slot-test.true)
-    (adds_both (held c.args.out.now) (each put (take i xs)) (held c.loop-slot.out) (put x) (held c.append-short.new.out) c.loop-slot.invariant (c.append-short.ensures (lit< tt)))
+    adds_as (held c.args.out.now) (each put (take i xs) ++ put x) (each put (take (i + 1) xs)) (held c.append_short.new.out) (ap (λ y. each put (take i xs) ++ put y) c.slot-item.is ∙ each_more put xs i x c.loop-slot-test.true)
+    (adds_both (held c.args.out.now) (each put (take i xs)) (held c.loop-slot.out) (put x) (held c.append_short.new.out) c.loop-slot.invariant (c.append_short.ensures (lit< tt)))
 
 pub returns : goal.returns
 returns c =

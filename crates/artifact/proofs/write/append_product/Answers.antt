@@ -13,10 +13,10 @@ returns c =
     let e = (listed byte 12 pair).put p.entries in
     let r = (listed byte 32 reference).put p.references in
     let o-0 = held c.args.out.now in
-    let o-1 = held c.append-short.new.out in
-    let o-2 = held c.append-long.new.out in
-    let o-3 = held c.append-short-2.new.out in
-    let o-4 = held c.append-short-3.new.out in
-    adds_both o-0 i o-1 (k ++ (e ++ r)) o-4 (c.append-short.ensures (lit< tt))
-    (adds_both o-1 k o-2 (e ++ r) o-4 (c.append-long.ensures (lit< tt))
-    (adds_both o-2 e o-3 r o-4 (c.append-short-2.ensures (lit< tt)) (c.append-short-3.ensures (lit< tt))))
+    let o-1 = held c.append_short.new.out in
+    let o-2 = held c.append_long.new.out in
+    let o-3 = held c.append_short-2.new.out in
+    let o-4 = held c.append_short-3.new.out in
+    adds_both o-0 i o-1 (k ++ (e ++ r)) o-4 (c.append_short.ensures (lit< tt))
+    (adds_both o-1 k o-2 (e ++ r) o-4 (c.append_long.ensures (lit< tt))
+    (adds_both o-2 e o-3 r o-4 (c.append_short-2.ensures (lit< tt)) (c.append_short-3.ensures (lit< tt))))

@@ -9,19 +9,19 @@ use Rattle.building.specs.Course.{ended_of, numbers}
 use Rattle.building.proofs.Courses.{course_goes, course_ends}
 use Rattle.building.proofs.course.build_all.Goals as goal
 
-pub returns-in-err-build-at : goal.returns-in-err-build-at
-returns-in-err-build-at g c =
+pub returns-in_err-build_at : goal.returns-in_err-build_at
+returns-in_err-build_at g c =
     let inv = c.loop-place.invariant in
-    let told = c.in-err-build-at.ensures in
+    let told = c.in_err-build_at.ensures in
     let few : length (done_list c.loop-place.done) < 24 = let a = c.requires in let b = c.loop-place-test.true in let d = inv.4 in omega arith in
-    let p = err_from_is_err_and c.from-residual.result c.from-residual.ensures.1 in
-    let is : c.from-residual.result ≡ Err c.in-err-build-at.field-0.0 = p.1 ∙ ap Err p.2 in
+    let p = err_from_is_err_and c.from_residual.result c.from_residual.ensures.1 in
+    let is : c.from_residual.result ≡ Err c.in_err-build_at.field-0.0 = p.1 ∙ ap Err p.2 in
     record {
       built = λ s.
           course_goes (meaning g.T.Translator.means g.T.Translator.same) g.S.Store.limit (g.S.Store.rows c.args.store.now) (members c.args.project.now) c.args.places.now c.loop-place.place-index (view (g.S.Store.pairs c.args.store.now))
-          (numbers (held c.loop-place.marks)) (done_list c.loop-place.done) (view (g.S.Store.pairs c.loop-place.store)) (inv.0 s) (g.S.Store.rows c.loop-place.store) (Err c.in-err-build-at.field-0.0)
-          (numbers (held c.build-at.new.marks)) (done_list c.build-at.new.done) (view (g.S.Store.pairs c.build-at.new.store)) inv.2 c.loop-place-test.true (told.goes (inv.1 s) few)
-          ∙ (λ i. record { ended = ended_of (sym is i); marks = numbers (held c.build-at.new.marks); done = done_list c.build-at.new.done; state = view (g.S.Store.pairs c.build-at.new.store) });
+          (numbers (held c.loop-place.marks)) (done_list c.loop-place.done) (view (g.S.Store.pairs c.loop-place.store)) (inv.0 s) (g.S.Store.rows c.loop-place.store) (Err c.in_err-build_at.field-0.0)
+          (numbers (held c.build_at.new.marks)) (done_list c.build_at.new.done) (view (g.S.Store.pairs c.build_at.new.store)) inv.2 c.loop-place-test.true (told.goes (inv.1 s) few)
+          ∙ (λ i. record { ended = ended_of (sym is i); marks = numbers (held c.build_at.new.marks); done = done_list c.build_at.new.done; state = view (g.S.Store.pairs c.build_at.new.store) });
       stays = λ s. told.stays (inv.1 s);
       rows = told.rows ∙ inv.2;
       counts = told.counts (g.T.Translator.asked c.args.translator.now) inv.5;
@@ -30,12 +30,12 @@ returns-in-err-build-at g c =
 pub loop-place-preserved : goal.loop-place-preserved
 loop-place-preserved g c =
     let inv = c.loop-place.invariant in
-    let told = c.in-ok-build-at.ensures in
+    let told = c.in_ok-build_at.ensures in
     let few : length (done_list c.loop-place.done) < 24 = let a = c.requires in let b = c.loop-place-test.true in let d = inv.4 in omega arith in (
       (λ s.
           course_goes (meaning g.T.Translator.means g.T.Translator.same) g.S.Store.limit (g.S.Store.rows c.args.store.now) (members c.args.project.now) c.args.places.now c.loop-place.place-index (view (g.S.Store.pairs c.args.store.now))
-          (numbers (held c.loop-place.marks)) (done_list c.loop-place.done) (view (g.S.Store.pairs c.loop-place.store)) (inv.0 s) (g.S.Store.rows c.loop-place.store) (Ok c.in-ok-build-at.field-0)
-          (numbers (held c.build-at.new.marks)) (done_list c.build-at.new.done) (view (g.S.Store.pairs c.build-at.new.store)) inv.2 c.loop-place-test.true (told.goes (inv.1 s) few)),
+          (numbers (held c.loop-place.marks)) (done_list c.loop-place.done) (view (g.S.Store.pairs c.loop-place.store)) (inv.0 s) (g.S.Store.rows c.loop-place.store) (Ok c.in_ok-build_at.field-0)
+          (numbers (held c.build_at.new.marks)) (done_list c.build_at.new.done) (view (g.S.Store.pairs c.build_at.new.store)) inv.2 c.loop-place-test.true (told.goes (inv.1 s) few)),
       (λ s. told.stays (inv.1 s)),
       told.rows ∙ inv.2,
       (let a = told.marks in let b = inv.3 in omega arith),

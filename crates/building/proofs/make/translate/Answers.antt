@@ -9,7 +9,7 @@ returns g c =
       means =
           ap (λ p. shown c.translate-result.result (parts p)) c.swap.ensures.x-after
           ∙ c.translate-result.ensures.means
-          ∙ (λ i. g.T.Translator.means (c.as-slice.ensures i) (c.imports.ensures i));
+          ∙ (λ i. g.T.Translator.means (c.as_slice.ensures i) (c.imports.ensures i));
       source = refl;
       imports = refl;
       counts = c.translate-result.ensures.counts;

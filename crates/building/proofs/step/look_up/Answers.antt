@@ -4,9 +4,9 @@ use Rattle.artifact.specs.Art.{art, read}
 use Rattle.building.proofs.Found.{got-found}
 use Rattle.building.proofs.step.look_up.Goals as goal
 
-pub returns-in-default : goal.returns-in-default
-returns-in-default g c =
-    let told = c.in-default.ensures in
+pub returns-in_default : goal.returns-in_default
+returns-in_default g c =
+    let told = c.in_default.ensures in
     record { finds = told.holds; pairs = told.pairs; stays = told.stays; rows = told.rows }
 
 pub returns : goal.returns
@@ -14,7 +14,7 @@ returns g c =
     let told = c.in-Some.ensures in
     record {
       finds = λ s.
-          got-found c.read.result c.is-ok.result (art c.read.new.self) c.is-ok.ensures.value
+          got-found c.read.result c.is_ok.result (art c.read.new.self) c.is_ok.ensures.value
           ∙ c.read.ensures.parts
           ∙ ap (λ n. read (take n c.get.new.buffer)) (sub-zero c.in-Some.length)
           ∙ told.holds s;

@@ -12,18 +12,18 @@ use Rattle.building.specs.Step.{current_to, current_in}
 use Rattle.building.proofs.Units.{unit_kept, taken, few_more, current_is, from_here}
 use Rattle.building.proofs.unit.build_unit.Goals as goal
 
-pub returns-in-default : goal.returns-in-default
-returns-in-default g c =
+pub returns-in_default : goal.returns-in_default
+returns-in_default g c =
     let m = meaning g.T.Translator.means g.T.Translator.same in
     let u = member c.args.unit.now in
     let ds = done_list c.args.done.now in
-    let got = c.in-default.ensures in
-    let made = c.make-unit.ensures in
+    let got = c.in_default.ensures in
+    let made = c.make_unit.ensures in
     let ps = g.S.Store.pairs c.args.store.now in
     let qs = g.S.Store.pairs c.get.new.store in
     record {
       built = λ s few.
-          from_here m g.S.Store.limit (g.S.Store.rows c.args.store.now) (g.S.Store.rows c.get.new.store) u ds (done_list c.make-unit.new.done) ps qs (view (g.S.Store.pairs c.make-unit.new.store)) c.make-unit.result got.rows (got.pairs s)
+          from_here m g.S.Store.limit (g.S.Store.rows c.args.store.now) (g.S.Store.rows c.get.new.store) u ds (done_list c.make_unit.new.done) ps qs (view (g.S.Store.pairs c.make_unit.new.store)) c.make_unit.result got.rows (got.pairs s)
           (made.built (got.stays s) few u (sym c.name-name.ensures) c.prepare.ensures
           (ap (λ xs. current m u (interfaces ds u) (artifact_in (lookup xs u.name.bytes))) (got.pairs s) ∙ ap (current m u (interfaces ds u)) (ap (λ n. artifact_in (lookup ps n.bytes)) (sym c.name-name.ensures) ∙ sym (got.holds s))));
       grows = made.grows;
@@ -32,23 +32,23 @@ returns-in-default g c =
       counts = made.counts;
     }
 
-pub returns-in-default-current : goal.returns-in-default-current
-returns-in-default-current g c =
+pub returns-in_default-current : goal.returns-in_default-current
+returns-in_default-current g c =
     let m = meaning g.T.Translator.means g.T.Translator.same in
     let u = member c.args.unit.now in
     let ds = done_list c.args.done.now in
     let got = c.in-Some.ensures in
-    let made = c.make-unit-in-default-current.ensures in
+    let made = c.make_unit-in_default-current.ensures in
     let ps = g.S.Store.pairs c.args.store.now in
     let qs = g.S.Store.pairs c.get.new.store in
     record {
       built = λ s few.
-          from_here m g.S.Store.limit (g.S.Store.rows c.args.store.now) (g.S.Store.rows c.get.new.store) u ds (done_list c.make-unit-in-default-current.new.done) ps qs (view (g.S.Store.pairs c.make-unit-in-default-current.new.store)) c.make-unit-in-default-current.result got.rows (got.pairs s)
+          from_here m g.S.Store.limit (g.S.Store.rows c.args.store.now) (g.S.Store.rows c.get.new.store) u ds (done_list c.make_unit-in_default-current.new.done) ps qs (view (g.S.Store.pairs c.make_unit-in_default-current.new.store)) c.make_unit-in_default-current.result got.rows (got.pairs s)
           (made.built (got.stays s) few u (sym c.name-name.ensures) c.prepare.ensures
           (ap (λ xs. current m u (interfaces ds u) (artifact_in (lookup xs u.name.bytes))) (got.pairs s)
           ∙ ap (current m u (interfaces ds u)) (ap (λ n. artifact_in (lookup ps n.bytes)) (sym c.name-name.ensures) ∙ sym (got.holds s))
           ∙ current_is m u (interfaces ds u) (art c.prepare.new.fresh) (in_buffer (Some c.in-Some.length) c.get.new.buffer) c.prepare.ensures
-          ∙ sym c.in-default-current.ensures));
+          ∙ sym c.in_default-current.ensures));
       grows = made.grows;
       stays = λ s. made.stays (got.stays s);
       rows = made.rows ∙ got.rows;

@@ -14,9 +14,9 @@ returns g c small =
     let put = g.T.Field.format.put in
     let xs = held c.args.xs.now in
     let out = held c.args.out.now in
-    let mid = held c.put-pair.new.out in
-    let end = held c.append-list.new.out in
+    let mid = held c.put_pair.new.out in
+    let end = held c.append_list.new.out in
     let n : c.len.result % 65536 ≡ length xs = kept c.len.result (length xs) g.row.N c.len.ensures (held_few c.args.xs.now) small in
     adds_both out (pair.put (length xs)) mid (each put xs) end
-    (adds_as out (pair.put (c.len.result % 65536)) (pair.put (length xs)) mid (ap pair.put n) c.put-pair.ensures)
-    (adds_as mid (each put c.as-slice.result.now) (each put xs) end (ap (each put) c.as-slice.ensures) c.append-list.ensures)
+    (adds_as out (pair.put (c.len.result % 65536)) (pair.put (length xs)) mid (ap pair.put n) c.put_pair.ensures)
+    (adds_as mid (each put c.as_slice.result.now) (each put xs) end (ap (each put) c.as_slice.ensures) c.append_list.ensures)

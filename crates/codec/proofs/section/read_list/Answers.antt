@@ -12,10 +12,10 @@ pub loop-init : goal.loop-init
 loop-init g c =
     (ap length c.clear.ensures, many_starts g.row.N c.args.count g.T.Field.format.get c.args.input.now.rest.now (held c.clear.new.self) c.clear.ensures c.if-count.false)
 
-pub returns-in-err-x : goal.returns-in-err-x
-returns-in-err-x g c =
-    ap (λ o. filled o (held c.loop.into) (left c.read.new.input)) c.from-residual.ensures
-    ∙ many_stops c.args.count c.loop.counter g.T.Field.format.get (left c.loop.input) (held c.loop.into) _ c.loop-test.true c.loop.invariant.1 c.in-err-x.ensures
+pub returns-in_err-x : goal.returns-in_err-x
+returns-in_err-x g c =
+    ap (λ o. filled o (held c.loop.into) (left c.read.new.input)) c.from_residual.ensures
+    ∙ many_stops c.args.count c.loop.counter g.T.Field.format.get (left c.loop.input) (held c.loop.into) _ c.loop-test.true c.loop.invariant.1 c.in_err-x.ensures
 
 pub returns-then-not-push : goal.returns-then-not-push
 returns-then-not-push g c =
@@ -24,8 +24,8 @@ returns-then-not-push g c =
 
 pub loop-preserved : goal.loop-preserved
 loop-preserved g c =
-    let e : held c.push.new.self ≡ held c.loop.into ++ c.in-ok-x.x ∷ [] = c.if-not-push.ensures.after in
-    (one_more (held c.loop.into) (held c.push.new.self) c.in-ok-x.x c.loop.counter e c.loop.invariant.0, ap (λ xs. onto xs (many (c.args.count - (c.loop.counter + 1)) g.T.Field.format.get (left c.read.new.input))) e ∙ many_goes c.args.count c.loop.counter g.T.Field.format.get (left c.loop.input) (held c.loop.into) _ c.loop-test.true c.loop.invariant.1 c.in-ok-x.x (left c.read.new.input) c.in-ok-x.ensures)
+    let e : held c.push.new.self ≡ held c.loop.into ++ c.in_ok-x.x ∷ [] = c.if-not-push.ensures.after in
+    (one_more (held c.loop.into) (held c.push.new.self) c.in_ok-x.x c.loop.counter e c.loop.invariant.0, ap (λ xs. onto xs (many (c.args.count - (c.loop.counter + 1)) g.T.Field.format.get (left c.read.new.input))) e ∙ many_goes c.args.count c.loop.counter g.T.Field.format.get (left c.loop.input) (held c.loop.into) _ c.loop-test.true c.loop.invariant.1 c.in_ok-x.x (left c.read.new.input) c.in_ok-x.ensures)
 
 pub returns : goal.returns
 returns g c =

@@ -4,8 +4,8 @@ use Rattle.emission.proofs.emit.+emit_emit_level_emit_within.Given as goal
 abbrev pub decreases-emit : goal.decreases-emit
 decreases-emit l = 3 * l.levels
 
-abbrev pub decreases-emit-level : goal.decreases-emit-level
-decreases-emit-level l = 3 * l.levels + 2
+abbrev pub decreases-emit_level : goal.decreases-emit_level
+decreases-emit_level l = 3 * l.levels + 2
 
-abbrev pub decreases-emit-within : goal.decreases-emit-within
-decreases-emit-within l = 3 * l.levels + 1
+abbrev pub decreases-emit_within : goal.decreases-emit_within
+decreases-emit_within l = 3 * l.levels + 1

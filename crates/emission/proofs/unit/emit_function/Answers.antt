@@ -19,8 +19,8 @@ module _ (own : List Declaration) (ks : List Known) (o : Outside) (all : List To
 pub returns-in-Some : goal.returns-in-Some
 returns-in-Some c =
     c.add.ensures
-    ∙ into c.args.own.now c.args.known.now (outside (map rows c.args.imports.now)) c.args.tokens.now c.args.d.now (parts c.args.out.now) (parts c.enter.new.out) c.if-not-enter.ensures _ c.expression-of.ensures _ c.in-Some.ensures
+    ∙ into c.args.own.now c.args.known.now (outside (map rows c.args.imports.now)) c.args.tokens.now c.args.d.now (parts c.args.out.now) (parts c.enter.new.out) c.if-not-enter.ensures _ c.expression_of.ensures _ c.in-Some.ensures
 
 pub returns-in-None : goal.returns-in-None
 returns-in-None c =
-    into c.args.own.now c.args.known.now (outside (map rows c.args.imports.now)) c.args.tokens.now c.args.d.now (parts c.args.out.now) (parts c.enter.new.out) c.if-not-enter.ensures _ c.expression-of.ensures _ c.in-None.ensures
+    into c.args.own.now c.args.known.now (outside (map rows c.args.imports.now)) c.args.tokens.now c.args.d.now (parts c.args.out.now) (parts c.enter.new.out) c.if-not-enter.ensures _ c.expression_of.ensures _ c.in-None.ensures

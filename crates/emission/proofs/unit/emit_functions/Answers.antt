@@ -22,18 +22,18 @@ module _ (own : List Declaration) (ks : List Known) (o : Outside) (all : List To
       ap (λ n. then n (λ q. functions own ks o all q (drop (i + 1) own))) e
       ∙ sym (ap (λ b. cond b (then (function_of own ks o all d p) (λ q. functions own ks o all q (drop (i + 1) own))) (functions own ks o all p (drop (i + 1) own))) f) ∙ there
 
-pub returns-then-not-emit-function : goal.returns-then-not-emit-function
-returns-then-not-emit-function c =
-    onto c.args.own.now c.args.known.now (outside (map rows c.args.imports.now)) c.args.tokens.now (parts c.loop-d.out) c.loop-d.d-index _ _ c.loop-d.invariant c.loop-d-test.true c.d-item.is c.if-d.true _ c.if-not-emit-function.ensures
+pub returns-then-not-emit_function : goal.returns-then-not-emit_function
+returns-then-not-emit_function c =
+    onto c.args.own.now c.args.known.now (outside (map rows c.args.imports.now)) c.args.tokens.now (parts c.loop-d.out) c.loop-d.d-index _ _ c.loop-d.invariant c.loop-d-test.true c.d-item.is c.if-d.true _ c.if-not-emit_function.ensures
 
 pub loop-d-preserved : goal.loop-d-preserved
 loop-d-preserved c =
     let own = c.args.own.now in
     let F = functions own c.args.known.now (outside (map rows c.args.imports.now)) c.args.tokens.now in
     elim c.if-d.branch [
-      | goal.then-d::else-not-emit-function w ↦
+      | goal.then-d::else-not-emit_function w ↦
           ap (λ u. F (parts u) (drop (c.loop-d.d-index + 1) own)) w.out-is
-          ∙ onto own c.args.known.now (outside (map rows c.args.imports.now)) c.args.tokens.now (parts c.loop-d.out) c.loop-d.d-index _ _ c.loop-d.invariant c.loop-d-test.true c.d-item.is w.if-d.true _ w.if-not-emit-function.ensures
+          ∙ onto own c.args.known.now (outside (map rows c.args.imports.now)) c.args.tokens.now (parts c.loop-d.out) c.loop-d.d-index _ _ c.loop-d.invariant c.loop-d-test.true c.d-item.is w.if-d.true _ w.if-not-emit_function.ensures
       | goal.else-d w ↦
           ap (λ u. F (parts u) (drop (c.loop-d.d-index + 1) own)) w.out-is
           ∙ over own c.args.known.now (outside (map rows c.args.imports.now)) c.args.tokens.now (parts c.loop-d.out) c.loop-d.d-index _ _ c.loop-d.invariant c.loop-d-test.true c.d-item.is w.if-d.false

@@ -4,8 +4,8 @@ use Rattle.grammar.proofs.expression.+check_check_level_check_within.Given as go
 abbrev pub decreases-check : goal.decreases-check
 decreases-check l = 3 * l.levels
 
-abbrev pub decreases-check-level : goal.decreases-check-level
-decreases-check-level l = 3 * l.levels + 2
+abbrev pub decreases-check_level : goal.decreases-check_level
+decreases-check_level l = 3 * l.levels + 2
 
-abbrev pub decreases-check-within : goal.decreases-check-within
-decreases-check-within l = 3 * l.levels + 1
+abbrev pub decreases-check_within : goal.decreases-check_within
+decreases-check_within l = 3 * l.levels + 1

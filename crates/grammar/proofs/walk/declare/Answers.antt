@@ -7,32 +7,32 @@ use Rattle.grammar.proofs.walk.declare.Goals as goal
 
 pub returns-in-Err : goal.returns-in-Err
 returns-in-Err c =
-    stops c.as-slice-all.result.now c.loop-i.start c.loop-i.i c.loop-i.line (held c.loop-i.out) _ _ _ c.loop-i.invariant.0 c.loop-i-test.true c.index-all-i.is c.is-line-end.ensures
-    _ c.judge-verdict.ensures _ c.if-is-line-end.true c.in-Err.ensures
-    ∙ ap declarations c.as-slice-all.ensures
+    stops c.as_slice-all.result.now c.loop-i.start c.loop-i.i c.loop-i.line (held c.loop-i.out) _ _ _ c.loop-i.invariant.0 c.loop-i-test.true c.index-all-i.is c.is_line_end.ensures
+    _ c.judge-verdict.ensures _ c.if-is_line_end.true c.in-Err.ensures
+    ∙ ap declarations c.as_slice-all.ensures
 
 pub loop-i-preserved : goal.loop-i-preserved
 loop-i-preserved c =
-    let all = c.as-slice-all.result.now in
+    let all = c.as_slice-all.result.now in
     let i = c.loop-i.i in
-    elim c.if-is-line-end.branch [
-      | goal.then-is-line-end+in-default w ↦
-          let few = noted_few c.loop-i.line c.loop-i.start i _ _ _ w.in-default.ensures in
+    elim c.if-is_line_end.branch [
+      | goal.then-is_line_end+in_default w ↦
+          let few = noted_few c.loop-i.line c.loop-i.start i _ _ _ w.in_default.ensures in
           let long = ap (λ o. length (held o)) w.out-is in (
             (λ k. walk all (w.start-is k) (i + 1) (w.line-is k) (held (w.out-is k)) (drop (i + 1) all))
-                ∙ goes all c.loop-i.start i c.loop-i.line (held c.loop-i.out) _ _ _ c.loop-i.invariant.0 c.loop-i-test.true c.index-all-i.is c.is-line-end.ensures
-                _ w.judge-verdict.ensures _ w.if-is-line-end.true w.in-default.ensures,
+                ∙ goes all c.loop-i.start i c.loop-i.line (held c.loop-i.out) _ _ _ c.loop-i.invariant.0 c.loop-i-test.true c.index-all-i.is c.is_line_end.ensures
+                _ w.judge-verdict.ensures _ w.if-is_line_end.true w.in_default.ensures,
             (omega (arith, w.start-is), (omega (arith, w.line-is, c.loop-i.invariant.1.1.0), (omega (arith, few, long, c.loop-i.invariant.1.1.1.0), c.loop-i.invariant.1.1.1.1))),
           )
-      | goal.else-is-line-end w ↦
+      | goal.else-is_line_end w ↦
           let long = ap (λ o. length (held o)) w.out-is in (
             (λ k. walk all (w.start-is k) (i + 1) (w.line-is k) (held (w.out-is k)) (drop (i + 1) all))
-                ∙ stays all c.loop-i.start i c.loop-i.line (held c.loop-i.out) _ _ _ c.loop-i.invariant.0 c.loop-i-test.true c.index-all-i.is c.is-line-end.ensures w.if-is-line-end.false,
+                ∙ stays all c.loop-i.start i c.loop-i.line (held c.loop-i.out) _ _ _ c.loop-i.invariant.0 c.loop-i-test.true c.index-all-i.is c.is_line_end.ensures w.if-is_line_end.false,
             (omega (arith, w.start-is, c.loop-i.invariant.1.0), (omega (arith, w.line-is, c.loop-i.invariant.1.1.0), (omega (arith, long, c.loop-i.invariant.1.1.1.0), c.loop-i.invariant.1.1.1.1))),
           )
     ]
 
 pub returns : goal.returns
 returns c =
-    end (walk c.as-slice-all.result.now c.loop-i.start c.loop-i.i c.loop-i.line (held c.loop-i.out)) c.as-slice-all.result.now c.loop-i.i _ c.loop-i.invariant.0 c.loop-i-test.false
-    ∙ ap declarations c.as-slice-all.ensures
+    end (walk c.as_slice-all.result.now c.loop-i.start c.loop-i.i c.loop-i.line (held c.loop-i.out)) c.as_slice-all.result.now c.loop-i.i _ c.loop-i.invariant.0 c.loop-i-test.false
+    ∙ ap declarations c.as_slice-all.ensures

@@ -18,13 +18,13 @@ module _ (xs : List Name) (i : ℕ) (x : Name) (t : Bool) (h : i < length xs) (a
   stops : t ≡ true → false ≡ different xs
   stops e = ap (λ b. not b && different (drop (i + 1) xs)) (sym e) ∙ turn
 
-pub returns-then-stands-among : goal.returns-then-stands-among
-returns-then-stands-among c =
-    stops c.args.names.now c.loop-i.i c.index-names-i.result c.stands-among.result c.loop-i-test.true c.index-names-i.is c.loop-i.invariant (c.stands-among.ensures ∙ ap (among c.index-names-i.result) (take_rest c.args.names.now (c.loop-i.i + 1))) c.if-stands-among.true
+pub returns-then-stands_among : goal.returns-then-stands_among
+returns-then-stands_among c =
+    stops c.args.names.now c.loop-i.i c.index-names-i.result c.stands_among.result c.loop-i-test.true c.index-names-i.is c.loop-i.invariant (c.stands_among.ensures ∙ ap (among c.index-names-i.result) (take_rest c.args.names.now (c.loop-i.i + 1))) c.if-stands_among.true
 
 pub loop-i-preserved : goal.loop-i-preserved
 loop-i-preserved c =
-    goes c.args.names.now c.loop-i.i c.index-names-i.result c.stands-among.result c.loop-i-test.true c.index-names-i.is c.loop-i.invariant (c.stands-among.ensures ∙ ap (among c.index-names-i.result) (take_rest c.args.names.now (c.loop-i.i + 1))) c.if-stands-among.false
+    goes c.args.names.now c.loop-i.i c.index-names-i.result c.stands_among.result c.loop-i-test.true c.index-names-i.is c.loop-i.invariant (c.stands_among.ensures ∙ ap (among c.index-names-i.result) (take_rest c.args.names.now (c.loop-i.i + 1))) c.if-stands_among.false
 
 pub returns : goal.returns
 returns c = sym (at_drop_all different _ _ c.loop-i-test.false) ∙ c.loop-i.invariant

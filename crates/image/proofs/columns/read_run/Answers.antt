@@ -9,10 +9,10 @@ use Rattle.image.proofs.columns.read_run.Goals as goal
 pub loop-others-init : goal.loop-others-init
 loop-others-init g c = run_starts g.T.Field.format.get c.args.unit g.row.N c.args.rows (left c.args.input.now) (held c.clear.new.self) c.clear.ensures
 
-pub returns-in-err-x : goal.returns-in-err-x
-returns-in-err-x g c =
-    ap (λ o. run_read o (held c.loop-others.into) (left c.read.new.input)) c.from-residual.ensures
-    ∙ run_fails g.T.Field.format.get c.args.unit g.row.N c.loop-others.others (left c.loop-others.input) (left c.skip.new.self) (held c.loop-others.into) _ c.loop-others-test.true (sym c.if-skip.ensures.found) c.if-skip.ensures.after c.loop-others.invariant c.in-err-x.ensures
+pub returns-in_err-x : goal.returns-in_err-x
+returns-in_err-x g c =
+    ap (λ o. run_read o (held c.loop-others.into) (left c.read.new.input)) c.from_residual.ensures
+    ∙ run_fails g.T.Field.format.get c.args.unit g.row.N c.loop-others.others (left c.loop-others.input) (left c.skip.new.self) (held c.loop-others.into) _ c.loop-others-test.true (sym c.if-skip.ensures.found) c.if-skip.ensures.after c.loop-others.invariant c.in_err-x.ensures
 
 pub returns-then-not-push : goal.returns-then-not-push
 returns-then-not-push g c =
@@ -22,7 +22,7 @@ returns-then-not-push g c =
 pub loop-others-preserved : goal.loop-others-preserved
 loop-others-preserved g c =
     run_goes g.T.Field.format.get c.args.unit g.row.N c.loop-others.others (left c.loop-others.input) (left c.skip.new.self) (held c.loop-others.into) _ c.loop-others-test.true (sym c.if-skip.ensures.found) c.if-skip.ensures.after c.loop-others.invariant
-    c.in-ok-x.x (left c.read.new.input) (held c.push.new.self) c.if-not-push.ensures.after (ltb-true (length (held c.loop-others.into)) g.row.N (sym c.push.ensures.fits ∙ c.if-not-push.false)) c.in-ok-x.ensures
+    c.in_ok-x.x (left c.read.new.input) (held c.push.new.self) c.if-not-push.ensures.after (ltb-true (length (held c.loop-others.into)) g.row.N (sym c.push.ensures.fits ∙ c.if-not-push.false)) c.in_ok-x.ensures
 
 pub returns-else-skip : goal.returns-else-skip
 returns-else-skip g c =

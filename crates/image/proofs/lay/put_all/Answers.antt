@@ -10,8 +10,8 @@ pub loop-b-preserved : goal.loop-b-preserved
 loop-b-preserved c =
     let xs = c.args.bytes.now in
     let i = c.loop-b.b-index in
-    lays_as c.args.at (take i xs ++ get_or xs i 0 ∷ []) (take (i + 1) xs) c.args.buffer.now c.put-at-end.new.buffer c.put-at-end.result (sym (take_more xs i 0 c.loop-b-test.true))
-    (lays_both c.args.at (take i xs) (get_or xs i 0 ∷ []) c.args.buffer.now c.loop-b.buffer c.put-at-end.new.buffer c.loop-b.end c.put-at-end.result c.loop-b.invariant c.put-at-end.ensures)
+    lays_as c.args.at (take i xs ++ get_or xs i 0 ∷ []) (take (i + 1) xs) c.args.buffer.now c.put_at-end.new.buffer c.put_at-end.result (sym (take_more xs i 0 c.loop-b-test.true))
+    (lays_both c.args.at (take i xs) (get_or xs i 0 ∷ []) c.args.buffer.now c.loop-b.buffer c.put_at-end.new.buffer c.loop-b.end c.put_at-end.result c.loop-b.invariant c.put_at-end.ensures)
 
 pub returns : goal.returns
 returns c =

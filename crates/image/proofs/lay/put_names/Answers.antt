@@ -14,9 +14,9 @@ loop-n-preserved c =
     let i = c.loop-n.n-index in
     let x = c.n-item.result in
     let put = name.put in
-    lays_as c.args.at (each put (take i xs) ++ c.bytes-bytes.result) (each put (take (i + 1) xs)) c.args.buffer.now c.put-all-end.new.buffer c.put-all-end.result
+    lays_as c.args.at (each put (take i xs) ++ c.bytes-bytes.result) (each put (take (i + 1) xs)) c.args.buffer.now c.put_all-end.new.buffer c.put_all-end.result
     (ap (λ bs. each put (take i xs) ++ bs) c.bytes-bytes.ensures ∙ ap (λ y. each put (take i xs) ++ put y) c.n-item.is ∙ each_more put xs i x c.loop-n-test.true)
-    (lays_both c.args.at (each put (take i xs)) c.bytes-bytes.result c.args.buffer.now c.loop-n.buffer c.put-all-end.new.buffer c.loop-n.end c.put-all-end.result c.loop-n.invariant c.put-all-end.ensures)
+    (lays_both c.args.at (each put (take i xs)) c.bytes-bytes.result c.args.buffer.now c.loop-n.buffer c.put_all-end.new.buffer c.loop-n.end c.put_all-end.result c.loop-n.invariant c.put_all-end.ensures)
 
 pub returns : goal.returns
 returns c =

@@ -6,5 +6,5 @@ pub returns : goal.returns
 returns g c =
     let u = c.args.unit in
     let put = g.T.Field.format.put c.args.x.now in
-    lays_both c.args.at (u ∷ []) put c.args.buffer.now c.put-at-end.new.buffer c.put-all.new.buffer c.put-at-end.result c.put-all.result c.put-at-end.ensures
-    (lays_as c.put-at-end.result c.bytes-bytes.result put c.put-at-end.new.buffer c.put-all.new.buffer c.put-all.result c.bytes-bytes.ensures c.put-all.ensures)
+    lays_both c.args.at (u ∷ []) put c.args.buffer.now c.put_at-end.new.buffer c.put_all.new.buffer c.put_at-end.result c.put_all.result c.put_at-end.ensures
+    (lays_as c.put_at-end.result c.bytes-bytes.result put c.put_at-end.new.buffer c.put_all.new.buffer c.put_all.result c.bytes-bytes.ensures c.put_all.ensures)

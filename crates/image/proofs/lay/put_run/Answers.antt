@@ -14,9 +14,9 @@ loop-x-preserved g c =
     let xs = c.args.rows.now in
     let i = c.loop-x.x-index in
     let x = c.x-item.result in
-    lays_as c.args.at (each put (take i xs) ++ put x) (each put (take (i + 1) xs)) c.args.buffer.now c.put-row-end.new.buffer c.put-row-end.result
+    lays_as c.args.at (each put (take i xs) ++ put x) (each put (take (i + 1) xs)) c.args.buffer.now c.put_row-end.new.buffer c.put_row-end.result
     (ap (λ y. each put (take i xs) ++ put y) c.x-item.is ∙ each_more put xs i x c.loop-x-test.true)
-    (lays_both c.args.at (each put (take i xs)) (put x) c.args.buffer.now c.loop-x.buffer c.put-row-end.new.buffer c.loop-x.end c.put-row-end.result c.loop-x.invariant c.put-row-end.ensures)
+    (lays_both c.args.at (each put (take i xs)) (put x) c.args.buffer.now c.loop-x.buffer c.put_row-end.new.buffer c.loop-x.end c.put_row-end.result c.loop-x.invariant c.put_row-end.ensures)
 
 pub returns : goal.returns
 returns g c =

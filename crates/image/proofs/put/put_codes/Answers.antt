@@ -17,9 +17,9 @@ loop-k-preserved c =
     let x = c.list.result.now in
     let put = code.put in
     let h : k < length xs = omega (arith, c.loop-k-test.true, column_length c.args.codes.now c.args.units c.requires) in
-    lays_as c.args.at (each put (take k xs) ++ put x) (each put (take (k + 1) xs)) c.args.buffer.now c.put-bytes-end.new.buffer c.put-bytes-end.result
+    lays_as c.args.at (each put (take k xs) ++ put x) (each put (take (k + 1) xs)) c.args.buffer.now c.put_bytes-end.new.buffer c.put_bytes-end.result
     (ap (λ y. each put (take k xs) ++ put y) (c.list.ensures.value c.args.units c.loop-k-test.true) ∙ each_more put xs k [] h)
-    (lays_both c.args.at (each put (take k xs)) (put x) c.args.buffer.now c.loop-k.buffer c.put-bytes-end.new.buffer c.loop-k.end c.put-bytes-end.result c.loop-k.invariant c.put-bytes-end.ensures)
+    (lays_both c.args.at (each put (take k xs)) (put x) c.args.buffer.now c.loop-k.buffer c.put_bytes-end.new.buffer c.loop-k.end c.put_bytes-end.result c.loop-k.invariant c.put_bytes-end.ensures)
 
 pub returns : goal.returns
 returns c =

@@ -21,32 +21,32 @@ resolve-requires c = (
   c.requires,
   (
     few_done c.args.done.now c.args.i (parts c.in-Some-product.product.now) c.in-Some-product.ensures,
-    subst (λ (xs : List Reference). length xs ≤ 32) (sym c.as-slice.ensures) (held_few c.in-Some-product.product.now.references),
+    subst (λ (xs : List Reference). length xs ≤ 32) (sym c.as_slice.ensures) (held_few c.in-Some-product.product.now.references),
   ),
 )
 
-pub overflow-cast-result : goal.overflow-cast-result
-overflow-cast-result c =
+pub overflow_cast-result : goal.overflow_cast-result
+overflow_cast-result c =
     let few : length (held c.resolve.new.targets) ≤ 32 = held_few c.resolve.new.targets in
-    let e : length c.as-slice-2.result.now ≡ length (held c.resolve.new.targets) = ap length c.as-slice-2.ensures in
-    let h = first_below (λ _ t. not (present (entries_of (done_list c.args.done.now)) t)) c.as-slice-2.result.now c.in-Some-first-lacking.k (sym c.in-Some-first-lacking.ensures) in
+    let e : length c.as_slice-2.result.now ≡ length (held c.resolve.new.targets) = ap length c.as_slice-2.ensures in
+    let h = first_below (λ _ t. not (present (entries_of (done_list c.args.done.now)) t)) c.as_slice-2.result.now c.in-Some-first_lacking.k (sym c.in-Some-first_lacking.ensures) in
     omega (arith, few, e, h)
 
-pub returns-in-default : goal.returns-in-default
-returns-in-default c = λ u d place here room. absurd (never u _ c.in-default.ensures place)
+pub returns-in_default : goal.returns-in_default
+returns-in_default c = λ u d place here room. absurd (never u _ c.in_default.ensures place)
 
-pub returns-in-default-product : goal.returns-in-default-product
-returns-in-default-product c = λ u d place here room. absurd (never d.parts _ c.in-default-product.ensures (ap (option_map (λ (m : Made). m.parts)) here))
+pub returns-in_default-product : goal.returns-in_default-product
+returns-in_default-product c = λ u d place here room. absurd (never d.parts _ c.in_default-product.ensures (ap (option_map (λ (m : Made). m.parts)) here))
 
-pub returns-in-Some-first-lacking : goal.returns-in-Some-first-lacking
-returns-in-Some-first-lacking c = λ u d place here room.
+pub returns-in-Some-first_lacking : goal.returns-in-Some-first_lacking
+returns-in-Some-first_lacking c = λ u d place here room.
     let x = member c.in-Some.unit.now in
     let p = parts c.in-Some-product.product.now in
     let is : x ≡ u = one_of x u _ c.in-Some.ensures place in
     let made : p ≡ d.parts = one_of p d.parts _ c.in-Some-product.ensures (ap (option_map (λ (m : Made). m.parts)) here) in
     let ts : held c.resolve.new.targets ≡ targets_of c.args.names.now c.args.i u d =
-    targets_are c.args.names.now c.args.i u d x p c.imports.result.now c.as-slice.result.now (held c.resolve.new.targets) is made c.imports.ensures c.as-slice.ensures c.resolve.ensures in (
-      ap (lacking (entries_of (done_list c.args.done.now))) (sym ts) ∙ ap (lacking (entries_of (done_list c.args.done.now))) (sym c.as-slice-2.ensures) ∙ sym c.in-Some-first-lacking.ensures,
+    targets_are c.args.names.now c.args.i u d x p c.imports.result.now c.as_slice.result.now (held c.resolve.new.targets) is made c.imports.ensures c.as_slice.ensures c.resolve.ensures in (
+      ap (lacking (entries_of (done_list c.args.done.now))) (sym ts) ∙ ap (lacking (entries_of (done_list c.args.done.now))) (sym c.as_slice-2.ensures) ∙ sym c.in-Some-first_lacking.ensures,
       c.name.ensures ∙ ap (λ (v : Member). v.name) is,
     )
 
@@ -57,11 +57,11 @@ returns c = λ u d place here room.
     let is : x ≡ u = one_of x u _ c.in-Some.ensures place in
     let made : p ≡ d.parts = one_of p d.parts _ c.in-Some-product.ensures (ap (option_map (λ (m : Made). m.parts)) here) in
     let ts : held c.resolve.new.targets ≡ targets_of c.args.names.now c.args.i u d =
-    targets_are c.args.names.now c.args.i u d x p c.imports.result.now c.as-slice.result.now (held c.resolve.new.targets) is made c.imports.ensures c.as-slice.ensures c.resolve.ensures in (
-      ap (lacking (entries_of (done_list c.args.done.now))) (sym ts) ∙ ap (lacking (entries_of (done_list c.args.done.now))) (sym c.as-slice-2.ensures) ∙ sym c.in-default-first-lacking.ensures,
-      with_all (units c.args.image.now) (units c.add.new.self) u d x p c.name-2.result c.as-slice-3.result.now c.as-slice-4.result.now (targets_of c.args.names.now c.args.i u d) c.as-slice-5.result.now c.add.result is made c.name-2.ensures c.as-slice-3.ensures c.as-slice-4.ensures (c.as-slice-5.ensures ∙ ts) room
-          (subst (λ (xs : List ℕ). length xs ≤ 384) (sym c.as-slice-3.ensures) (held_few c.in-Some-product.product.now.code))
-          (subst (λ (xs : List ℕ). length xs ≤ 12) (sym c.as-slice-4.ensures) (held_few c.in-Some-product.product.now.entries))
-          (subst (λ (xs : List Target). length xs ≤ 32) (sym c.as-slice-5.ensures) (held_few c.resolve.new.targets))
+    targets_are c.args.names.now c.args.i u d x p c.imports.result.now c.as_slice.result.now (held c.resolve.new.targets) is made c.imports.ensures c.as_slice.ensures c.resolve.ensures in (
+      ap (lacking (entries_of (done_list c.args.done.now))) (sym ts) ∙ ap (lacking (entries_of (done_list c.args.done.now))) (sym c.as_slice-2.ensures) ∙ sym c.in_default-first_lacking.ensures,
+      with_all (units c.args.image.now) (units c.add.new.self) u d x p c.name-2.result c.as_slice-3.result.now c.as_slice-4.result.now (targets_of c.args.names.now c.args.i u d) c.as_slice-5.result.now c.add.result is made c.name-2.ensures c.as_slice-3.ensures c.as_slice-4.ensures (c.as_slice-5.ensures ∙ ts) room
+          (subst (λ (xs : List ℕ). length xs ≤ 384) (sym c.as_slice-3.ensures) (held_few c.in-Some-product.product.now.code))
+          (subst (λ (xs : List ℕ). length xs ≤ 12) (sym c.as_slice-4.ensures) (held_few c.in-Some-product.product.now.entries))
+          (subst (λ (xs : List Target). length xs ≤ 32) (sym c.as_slice-5.ensures) (held_few c.resolve.new.targets))
           c.add.ensures.fits c.add.ensures.after,
     )

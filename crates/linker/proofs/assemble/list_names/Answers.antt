@@ -24,13 +24,13 @@ loop-p-preserved c =
       few_names (held c.loop-p.names) (held c.push.new.self) c.in-Some.name c.push.result i c.push.ensures.after inv.1,
     )
 
-pub loop-p-preserved-in-default : goal.loop-p-preserved-in-default
-loop-p-preserved-in-default c =
+pub loop-p-preserved-in_default : goal.loop-p-preserved-in_default
+loop-p-preserved-in_default c =
     let vs = members c.args.project.now in
     let ps = c.args.places.now in
     let i = c.loop-p.p-index in
     let inv = c.loop-p.invariant in (
-      (λ few. inv.0 few ∙ sym (append-nil (names (in_order vs (take i ps)))) ∙ ap (λ o. names (in_order vs (take i ps)) ++ option_to_list o) c.in-default.ensures ∙ sym (names_more vs ps i c.loop-p-test.true)),
+      (λ few. inv.0 few ∙ sym (append-nil (names (in_order vs (take i ps)))) ∙ ap (λ o. names (in_order vs (take i ps)) ++ option_to_list o) c.in_default.ensures ∙ sym (names_more vs ps i c.loop-p-test.true)),
       (let a = inv.1 in omega arith),
     )
 

@@ -16,16 +16,16 @@ loop-at-preserved c =
     let q = c.args.name.bytes in
     let at = c.loop-at.at in
     let cut = take_rest xs at in
-    let miss : holds (drop at xs) q ≡ false = ap (λ (x : List ℕ). holds x q) (sym cut) ∙ sym c.is-held.ensures ∙ c.if-is-held.false in
-    let long : c.length-of.result ≡ size (drop at xs) = c.length-of.ensures ∙ ap size cut in
+    let miss : holds (drop at xs) q ≡ false = ap (λ (x : List ℕ). holds x q) (sym cut) ∙ sym c.is_held.ensures ∙ c.if-is_held.false in
+    let long : c.length_of.result ≡ size (drop at xs) = c.length_of.ensures ∙ ap size cut in
     subst (λ (n : ℕ). Search (records xs) q (at + (11 + n))) (sym long) (search_next xs q at c.requires c.loop-at.invariant c.loop-at-test.true miss)
 
-pub returns-then-is-held : goal.returns-then-is-held
-returns-then-is-held c =
+pub returns-then-is_held : goal.returns-then-is_held
+returns-then-is_held c =
     let xs = c.args.log.now in
     let q = c.args.name.bytes in
     let at = c.loop-at.at in
-    let place = search_finds xs q at c.requires c.loop-at.invariant c.loop-at-test.true (ap (λ (x : List ℕ). holds x q) (sym (take_rest xs at)) ∙ sym c.is-held.ensures ∙ c.if-is-held.true) in
+    let place = search_finds xs q at c.requires c.loop-at.invariant c.loop-at-test.true (ap (λ (x : List ℕ). holds x q) (sym (take_rest xs at)) ∙ sym c.is_held.ensures ∙ c.if-is_held.true) in
     record { place = place; finds = found xs q at c.requires place; within = (let t = c.loop-at-test.true in omega arith) }
 
 pub returns : goal.returns

@@ -3,7 +3,7 @@ use Rattle.std.proofs.lemmas.List.{at_drop_more, at_drop_all}
 use Rattle.names.proofs.Spelled.{rest, rest_zero, rest_goes, rest_bad, rest_ended, rest_none}
 use Rattle.names.specs.Spelling.{continues}
 use Rattle.names.proofs.spell.is_tail.Goals as goal
-use Rattle.names.proofs.spell.is_tail.Goals.{then-b-eq0, else-b-eq0+else-ended+else-not-may-follow, then-ended-via-then-ended, then-ended-via-else-ended+then-not-may-follow}
+use Rattle.names.proofs.spell.is_tail.Goals.{then-b-eq0, else-b-eq0+else-ended+else-not-may_follow, then-ended-via-then-ended, then-ended-via-else-ended+then-not-may_follow}
 
 -- the turn at place i, where e says whether a zero byte came before and r is the answer
 module _ (xs : List ℕ) (i : ℕ) (e : Bool) (r : Bool) (h : i < length xs) (inv : rest e (drop i xs) ≡ r) where
@@ -26,16 +26,16 @@ pub returns-then-ended : goal.returns-then-ended
 returns-then-ended c =
     elim c.then-ended.branch [
       | then-ended-via-then-ended w ↦ by_ended _ _ _ _ c.loop-b-test.true c.loop-b.invariant c.if-b-eq0.false w.if-ended.true
-      | then-ended-via-else-ended+then-not-may-follow w ↦
-          by_bad _ _ _ _ c.loop-b-test.true c.loop-b.invariant c.if-b-eq0.false (sym w.if-not-may-follow.ensures)
+      | then-ended-via-else-ended+then-not-may_follow w ↦
+          by_bad _ _ _ _ c.loop-b-test.true c.loop-b.invariant c.if-b-eq0.false (sym w.if-not-may_follow.ensures)
     ]
 
 pub loop-b-preserved : goal.loop-b-preserved
 loop-b-preserved c =
     elim c.if-b-eq0.branch [
       | then-b-eq0 w ↦ by_zero _ _ _ _ c.loop-b-test.true c.loop-b.invariant _ w.ended-is w.if-b-eq0.true
-      | else-b-eq0+else-ended+else-not-may-follow w ↦
-          by_more _ _ _ _ c.loop-b-test.true c.loop-b.invariant _ w.ended-is w.if-b-eq0.false w.if-ended.false (sym w.if-not-may-follow.ensures)
+      | else-b-eq0+else-ended+else-not-may_follow w ↦
+          by_more _ _ _ _ c.loop-b-test.true c.loop-b.invariant _ w.ended-is w.if-b-eq0.false w.if-ended.false (sym w.if-not-may_follow.ensures)
     ]
 
 pub returns : goal.returns

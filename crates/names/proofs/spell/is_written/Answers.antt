@@ -8,4 +8,4 @@ use Rattle.names.proofs.spell.is_written.Goals as goal
 pub returns : goal.returns
 returns c =
     let bs = c.args.text.now in
-    c.is-plain.ensures ∙ ap plain (take_rest bs 1) ∙ ap (λ b. b && plain (drop 1 bs)) c.if-not-is-letter.ensures ∙ sym (written-parts bs (let n = eqb-false (length bs) 0 (sym c.is-empty.ensures ∙ c.if-is-empty.false) in omega arith) (omega arith))
+    c.is_plain.ensures ∙ ap plain (take_rest bs 1) ∙ ap (λ b. b && plain (drop 1 bs)) c.if-not-is_letter.ensures ∙ sym (written-parts bs (let n = eqb-false (length bs) 0 (sym c.is_empty.ensures ∙ c.if-is_empty.false) in omega arith) (omega arith))

@@ -12,10 +12,10 @@ written ys text e =
     ∙ ap (λ n. text ++ drop n (replicate 8 0)) (sub-zero (length text))
     ∙ ap (λ zs. text ++ zs) (drop-replicate (length text) 8 0)
 
-pub invariant-of-result : goal.invariant-of-result
-invariant-of-result c =
+pub invariant_of-result : goal.invariant_of-result
+invariant_of-result c =
     let text = c.args.text.now in
-    (ap padded_name (written c.copy-from-slice.new.self text c.copy-from-slice.ensures.after) ∙ padded_is_name text c.requires, tt)
+    record { valid = ap padded_name (written c.copy_from_slice.new.self text c.copy_from_slice.ensures.after) ∙ padded_is_name text c.requires }
 
 pub returns : goal.returns
-returns c = written c.copy-from-slice.new.self c.args.text.now c.copy-from-slice.ensures.after
+returns c = written c.copy_from_slice.new.self c.args.text.now c.copy_from_slice.ensures.after

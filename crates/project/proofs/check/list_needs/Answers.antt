@@ -16,7 +16,7 @@ loop-i-preserved c =
     let u = c.index.result.now in
     let all = members-length p in
     let part = length-take-le i (members p) (omega arith) in
-    let added = c.add-needs.ensures ∙ ap (λ xs. held c.loop-i.needs ++ needs_for i xs) c.as-slice.ensures in
+    let added = c.add_needs.ensures ∙ ap (λ xs. held c.loop-i.needs ++ needs_for i xs) c.as_slice.ensures in
     let size = length-append (held c.loop-i.needs) (needs_for i (held u.imports)) in
     let as_many : length (needs_for i (held u.imports)) ≡ length (held u.imports) = length-map (held u.imports) (λ (n : Name). record { item = i; key = n }) in
     let few : length (held u.imports) ≤ 4 = held_few u.imports in

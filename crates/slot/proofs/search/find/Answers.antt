@@ -11,11 +11,11 @@ pub loop-i-preserved : goal.loop-i-preserved
 loop-i-preserved c =
     let xs = c.args.area.now in
     let i = c.loop-i.i in
-    has_more (λ k. held (slot xs k)) i c.args.name.bytes c.loop-i.invariant (has-held (slot xs i) c.args.name.bytes (sym c.is-held.ensures ∙ c.if-is-held.false))
+    has_more (λ k. held (slot xs k)) i c.args.name.bytes c.loop-i.invariant (has-held (slot xs i) c.args.name.bytes (sym c.is_held.ensures ∙ c.if-is_held.false))
 
-pub returns-then-is-held : goal.returns-then-is-held
-returns-then-is-held c =
-    let s : SlotOf c.args.rows c.args.area.now c.args.name.bytes c.loop-i.i = (c.loop-i-test.true, sym c.is-held.ensures ∙ c.if-is-held.true, c.loop-i.invariant) in
+pub returns-then-is_held : goal.returns-then-is_held
+returns-then-is_held c =
+    let s : SlotOf c.args.rows c.args.area.now c.args.name.bytes c.loop-i.i = (c.loop-i-test.true, sym c.is_held.ensures ∙ c.if-is_held.true, c.loop-i.invariant) in
     record { slot = s; finds = found c.args.rows c.args.area.now c.args.name.bytes c.loop-i.i s }
 
 pub returns : goal.returns

@@ -8,4 +8,4 @@ pub loop-i-preserved : goal.loop-i-preserved
 loop-i-preserved c =
     let xs = c.args.area.now in
     let i = c.loop-i.i in
-    length_more (λ k. held (slot xs k)) i c.loop-i.invariant (length-held (slot xs i) (sym c.is-live.ensures ∙ c.if-not-is-live.false))
+    length_more (λ k. held (slot xs k)) i c.loop-i.invariant (length-held (slot xs i) (sym c.is_live.ensures ∙ c.if-not-is_live.false))

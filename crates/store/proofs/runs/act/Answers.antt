@@ -15,7 +15,7 @@ returns-in-Ok g c =
     let after = g.S.Store.pairs c.put.new.self in
     let key = c.in-Put.name.bytes in
     let bs = vec_items c.in-Put.bytes in
-    let said : g.S.Store.sound c.args.store.now → PutSays limit rows before after key bs 0 = λ s. subst (λ (x : List ℕ). PutSays limit rows before after key x 0) c.as-slice.ensures.value (c.in-Ok.ensures.says s) in
+    let said : g.S.Store.sound c.args.store.now → PutSays limit rows before after key bs 0 = λ s. subst (λ (x : List ℕ). PutSays limit rows before after key x 0) c.as_slice.ensures.value (c.in-Ok.ensures.says s) in
     record {
       answers =
           λ s past st.

@@ -6,8 +6,8 @@ use Rattle.tokens.specs.Stream.{ended, reading, next, Begun}
 use Rattle.tokens.proofs.Turns.{word_room, own_room, joined, turn_is, end_is, begun-next, begun-ended}
 use Rattle.tokens.proofs.lexer.read.Goals as goal
 
-pub put-word-requires : goal.put-word-requires
-put-word-requires c =
+pub put_word-requires : goal.put_word-requires
+put_word-requires c =
     let src = c.args.source.now in
     let i = c.loop-i.i in
     let s = c.loop-i.lexer.state in
@@ -22,7 +22,7 @@ put-requires c =
     let src = c.args.source.now in
     let i = c.loop-i.i in
     let s = c.loop-i.lexer.state in
-    own_room src i (get_or src i 0) s _ _ (held c.loop-i.tokens) c.if-source-gt512.false c.step-step.ensures.ends c.step-step.ensures.brings _ _ (turn_is src s i (held c.loop-i.tokens) c.loop-i-test.true c.loop-i.invariant.0) c.put-word.ensures
+    own_room src i (get_or src i 0) s _ _ (held c.loop-i.tokens) c.if-source-gt512.false c.step-step.ensures.ends c.step-step.ensures.brings _ _ (turn_is src s i (held c.loop-i.tokens) c.loop-i-test.true c.loop-i.invariant.0) c.put_word.ensures
 
 pub loop-i-preserved : goal.loop-i-preserved
 loop-i-preserved c =
@@ -30,12 +30,12 @@ loop-i-preserved c =
     let i = c.loop-i.i in
     let s = c.loop-i.lexer.state in (
       ap (λ t. held c.put.new.tokens ++ reading src t (i + 1) (drop (i + 1) src)) c.step-step.ensures.moves
-          ∙ joined src i (get_or src i 0) s _ _ (held c.loop-i.tokens) c.if-source-gt512.false c.step-step.ensures.ends c.step-step.ensures.brings _ _ _ (turn_is src s i (held c.loop-i.tokens) c.loop-i-test.true c.loop-i.invariant.0) c.put-word.ensures c.put.ensures,
+          ∙ joined src i (get_or src i 0) s _ _ (held c.loop-i.tokens) c.if-source-gt512.false c.step-step.ensures.ends c.step-step.ensures.brings _ _ _ (turn_is src s i (held c.loop-i.tokens) c.loop-i-test.true c.loop-i.invariant.0) c.put_word.ensures c.put.ensures,
       subst (Begun (i + 1)) (sym c.step-step.ensures.moves) (begun-next s i (get_or src i 0) c.loop-i.invariant.1),
     )
 
-pub put-word-requires-2 : goal.put-word-requires-2
-put-word-requires-2 c =
+pub put_word-requires-2 : goal.put_word-requires-2
+put_word-requires-2 c =
     let src = c.args.source.now in
     let s = c.loop-i.lexer.state in
     let e : c.loop-i.i ≡ length src = omega arith in
@@ -49,7 +49,7 @@ pub put-requires-2 : goal.put-requires-2
 put-requires-2 c =
     let src = c.args.source.now in
     let s = c.loop-i.lexer.state in
-    own_room src (length src) 10 s _ _ (held c.loop-i.tokens) c.if-source-gt512.false c.step-last.ensures.ends c.step-last.ensures.brings [] _ (end_is src s c.loop-i.i (held c.loop-i.tokens) c.loop-i-test.false c.loop-i.auto.i-end c.loop-i.invariant.0) c.put-word-2.ensures
+    own_room src (length src) 10 s _ _ (held c.loop-i.tokens) c.if-source-gt512.false c.step-last.ensures.ends c.step-last.ensures.brings [] _ (end_is src s c.loop-i.i (held c.loop-i.tokens) c.loop-i-test.false c.loop-i.auto.i-end c.loop-i.invariant.0) c.put_word-2.ensures
 
 pub returns : goal.returns
 returns c =
@@ -57,5 +57,5 @@ returns c =
     let s = c.loop-i.lexer.state in
     record {
       reads = sym (le-leb (length src) 512 c.if-source-gt512.false);
-      after = sym (append-nil (held c.put-2.new.tokens)) ∙ joined src (length src) 10 s _ _ (held c.loop-i.tokens) c.if-source-gt512.false c.step-last.ensures.ends c.step-last.ensures.brings [] _ _ (end_is src s c.loop-i.i (held c.loop-i.tokens) c.loop-i-test.false c.loop-i.auto.i-end c.loop-i.invariant.0) c.put-word-2.ensures c.put-2.ensures;
+      after = sym (append-nil (held c.put-2.new.tokens)) ∙ joined src (length src) 10 s _ _ (held c.loop-i.tokens) c.if-source-gt512.false c.step-last.ensures.ends c.step-last.ensures.brings [] _ _ (end_is src s c.loop-i.i (held c.loop-i.tokens) c.loop-i-test.false c.loop-i.auto.i-end c.loop-i.invariant.0) c.put_word-2.ensures c.put-2.ensures;
     }

@@ -7,4 +7,4 @@ use Rattle.values.proofs.evaluation.+evaluate_evaluate_level_evaluate_within.Goa
 
 pub evaluate-returns : goal.evaluate-returns
 evaluate-returns t c =
-    c.evaluate-level.ensures ∙ sym (expression-more (evaluating c.args.known.now (outside (map rows c.args.imports.now))) c.args.levels c.args.tokens.now c.if-levels-eq0.false)
+    c.evaluate_level.ensures ∙ sym (expression-more (evaluating c.args.known.now (outside (map rows c.args.imports.now))) c.args.levels c.args.tokens.now c.if-levels-eq0.false)

@@ -4,8 +4,8 @@ use Rattle.values.proofs.evaluation.+evaluate_evaluate_level_evaluate_within.Giv
 abbrev pub decreases-evaluate : goal.decreases-evaluate
 decreases-evaluate l = 3 * l.levels
 
-abbrev pub decreases-evaluate-level : goal.decreases-evaluate-level
-decreases-evaluate-level l = 3 * l.levels + 2
+abbrev pub decreases-evaluate_level : goal.decreases-evaluate_level
+decreases-evaluate_level l = 3 * l.levels + 2
 
-abbrev pub decreases-evaluate-within : goal.decreases-evaluate-within
-decreases-evaluate-within l = 3 * l.levels + 1
+abbrev pub decreases-evaluate_within : goal.decreases-evaluate_within
+decreases-evaluate_within l = 3 * l.levels + 1

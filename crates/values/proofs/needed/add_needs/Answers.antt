@@ -14,18 +14,18 @@ loop-d-preserved c =
     let d = c.d-item.result in
     let n : Need ℕ = record { item = c.args.item; key = d.line } in
     let F = needs_of c.args.item c.args.tokens.now in
-    elim c.if-is-mentioned.branch [
-      | goal.then-is-mentioned w ↦
+    elim c.if-is_mentioned.branch [
+      | goal.then-is_mentioned w ↦
           let more = pushed h (held w.push.new.self) n 144 _ (omega (arith, c.loop-d.invariant.1)) w.push.ensures.fits w.push.ensures.after in
           let same = ap held w.out-is in (
             gathers F cs i h _ c.loop-d.invariant.0 F d (n ∷ []) _ c.loop-d-test.true c.d-item.is
-                (ap (λ b. cond b (n ∷ F (drop (i + 1) cs)) (F (drop (i + 1) cs))) (sym c.is-mentioned.ensures ∙ w.if-is-mentioned.true)) (same ∙ more),
+                (ap (λ b. cond b (n ∷ F (drop (i + 1) cs)) (F (drop (i + 1) cs))) (sym c.is_mentioned.ensures ∙ w.if-is_mentioned.true)) (same ∙ more),
             omega (arith, ap length (same ∙ more), length-append h (n ∷ []), c.loop-d.invariant.1),
           )
-      | goal.else-is-mentioned w ↦
+      | goal.else-is_mentioned w ↦
           let same = ap held w.out-is in (
             gathers F cs i h _ c.loop-d.invariant.0 F d [] _ c.loop-d-test.true c.d-item.is
-                (ap (λ b. cond b (n ∷ F (drop (i + 1) cs)) (F (drop (i + 1) cs))) (sym c.is-mentioned.ensures ∙ w.if-is-mentioned.false)) (same ∙ sym (append-nil h)),
+                (ap (λ b. cond b (n ∷ F (drop (i + 1) cs)) (F (drop (i + 1) cs))) (sym c.is_mentioned.ensures ∙ w.if-is_mentioned.false)) (same ∙ sym (append-nil h)),
             omega (arith, ap length same, c.loop-d.invariant.1),
           )
     ]

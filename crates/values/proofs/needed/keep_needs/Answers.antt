@@ -13,8 +13,8 @@ loop-i-preserved c =
     let h = held c.loop-i.out in
     let d = c.index-constants-i.result in (
       gathers (needs all cs i) cs i h _ c.loop-i.invariant.0 (needs all cs (i + 1)) d (needs_of i (body all d) cs) _ c.loop-i-test.true c.index-constants-i.is refl
-          (c.add-needs.ensures.adds ∙ ap (λ ts. h ++ needs_of i ts cs) c.expression-of.ensures),
-      omega (arith, c.add-needs.ensures.few, c.loop-i.invariant.1),
+          (c.add_needs.ensures.adds ∙ ap (λ ts. h ++ needs_of i ts cs) c.expression_of.ensures),
+      omega (arith, c.add_needs.ensures.few, c.loop-i.invariant.1),
     )
 
 pub returns : goal.returns

@@ -6,12 +6,12 @@ use Rattle.values.proofs.solver.settle.Goals as goal
 
 pub returns-in-All : goal.returns-in-All
 returns-in-All c =
-    c.value-all.ensures
+    c.value_all.ensures
     ∙ settles c.args.tokens.now (outside (map rows c.args.imports.now)) c.args.constants.now c.args.keys.now c.args.needs.now (replicate 12 0) c.order.new.places c.order.result (omega (arith, c.requires.few, c.requires.keyed)) c.order.ensures.answers c.requires.keyed c.in-All.is
 
 pub returns-in-Stuck : goal.returns-in-Stuck
 returns-in-Stuck c =
-    ap Err c.circle-at.ensures
+    ap Err c.circle_at.ensures
     ∙ sticks c.args.tokens.now (outside (map rows c.args.imports.now)) c.args.constants.now c.args.keys.now c.args.needs.now (replicate 12 0) c.order.new.places c.order.result (omega (arith, c.requires.few, c.requires.keyed)) c.order.ensures.answers _ c.in-Stuck.is
 
 pub returns-in-Short : goal.returns-in-Short

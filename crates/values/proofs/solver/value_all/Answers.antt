@@ -9,8 +9,8 @@ use Rattle.values.specs.Solved.{nth, valued}
 use Rattle.values.proofs.Placed.{behind_few, onto}
 use Rattle.values.proofs.solver.value_all.Goals as goal
 
-pub value-next-requires : goal.value-next-requires
-value-next-requires c = omega (arith, c.loop-p.invariant.1)
+pub value_next-requires : goal.value_next-requires
+value_next-requires c = omega (arith, c.loop-p.invariant.1)
 
 pub returns-in-Err : goal.returns-in-Err
 returns-in-Err c =
@@ -18,8 +18,8 @@ returns-in-Err c =
 
 pub loop-p-preserved : goal.loop-p-preserved
 loop-p-preserved c = (
-  onto c.args.tokens.now (outside (map rows c.args.imports.now)) c.args.constants.now (held c.loop-p.known) c.args.places.now c.loop-p.p-index _ c.loop-p.invariant.0 c.loop-p-test.true _ c.in-default.ensures,
-  omega (arith, behind_few c.args.tokens.now (outside (map rows c.args.imports.now)) (held c.loop-p.known) (held c.value-next.new.known) (nth c.args.constants.now (get_or c.args.places.now c.loop-p.p-index 0)) c.in-default.ensures, c.loop-p.invariant.1),
+  onto c.args.tokens.now (outside (map rows c.args.imports.now)) c.args.constants.now (held c.loop-p.known) c.args.places.now c.loop-p.p-index _ c.loop-p.invariant.0 c.loop-p-test.true _ c.in_default.ensures,
+  omega (arith, behind_few c.args.tokens.now (outside (map rows c.args.imports.now)) (held c.loop-p.known) (held c.value_next.new.known) (nth c.args.constants.now (get_or c.args.places.now c.loop-p.p-index 0)) c.in_default.ensures, c.loop-p.invariant.1),
 )
 
 pub returns : goal.returns

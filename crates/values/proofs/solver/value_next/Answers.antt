@@ -13,5 +13,5 @@ returns-in-Some c =
     let ks = held c.args.known.now in
     let d = c.in-Some.d in
     c.learn.ensures
-    ∙ ap (learnt ks d) (c.value-of-value.ensures ∙ ap (λ k. value all o k d) c.as-slice.ensures)
+    ∙ ap (learnt ks d) (c.value_of-value.ensures ∙ ap (λ k. value all o k d) c.as_slice.ensures)
     ∙ ap (behind all o ks) c.in-Some.ensures

@@ -18,5 +18,5 @@ filled a s rs h e = one_more (vec_items a.imports) a.count s (omega (arith, a.fo
 pub returns : goal.returns
 returns c =
     let a = c.args.self.now in
-    let e = filled a _ (rows c.args.from.now) c.if-at-ge4.false c.copy-from.ensures in
+    let e = filled a _ (rows c.args.from.now) c.if-at-ge4.false c.copy_from.ensures in
     record { fits = room a c.if-at-ge4.false; after = λ i. record { source = held a.source; imports = e i; product = parts a.product } }

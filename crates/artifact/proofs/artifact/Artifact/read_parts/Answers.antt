@@ -37,4 +37,4 @@ joined bs cs ds es s is n r p e f all h g =
 
 pub returns : goal.returns
 returns c =
-    joined (left c.args.input.now) (left c.read-long.new.input) (left c.read-imports.new.input) (left c.read-product.new.input) (held c.read-long.new.into) _ c.in-ok-count.count c.read-product.result (parts c.read-product.new.into) c.in-ok-read-long.ensures c.in-ok-count.ensures.parts (sym c.read-imports.new.slots.ok.0 ∙ c.in-ok-count.ensures.four) c.in-ok-count.ensures.few c.read-product.ensures
+    joined (left c.args.input.now) (left c.read_long.new.input) (left c.read_imports.new.input) (left c.read_product.new.input) (held c.read_long.new.into) _ c.in_ok-count.count c.read_product.result (parts c.read_product.new.into) c.in_ok-read_long.ensures c.in_ok-count.ensures.parts (sym c.read_imports.new.slots.ok.0 ∙ c.in_ok-count.ensures.four) c.in_ok-count.ensures.few c.read_product.ensures

@@ -16,7 +16,7 @@ returns-in-Some g c =
     let xs = kept s.copies in
     let ps = g.S.Store.pairs s.below in
     let room = length c.args.buffer.now in
-    let said = c.in-ok-n.ensures in
+    let said = c.in_ok-n.ensures in
     let told : Some c.in-Some.n ≡ option_map length (lookup xs q) = sym c.in-Some.is ∙ said.told in
     let hit : is_some (lookup xs q) ≡ true = told-found (lookup xs q) c.in-Some.n told in
     record {
@@ -27,18 +27,18 @@ returns-in-Some g c =
       held = λ t. hit_kept xs (kept c.recall.new.self) ps q room t.1.1 hit c.recall.ensures.latest;
     }
 
-pub returns-in-err-n : goal.returns-in-err-n
-returns-in-err-n g c =
+pub returns-in_err-n : goal.returns-in_err-n
+returns-in_err-n g c =
     let s = c.args.self.now in
     let q = c.args.name.bytes in
     let xs = kept s.copies in
     let ps = g.S.Store.pairs s.below in
     let room = length c.args.buffer.now in
-    let same : answer c.from-residual.result ≡ answer c.recall.result = search rules in
-    let hit : is_some (lookup xs q) ≡ true = refused_found (lookup xs q) c.in-err-n.field-0.0 room c.in-err-n.ensures.outcome in
+    let same : answer c.from_residual.result ≡ answer c.recall.result = search rules in
+    let hit : is_some (lookup xs q) ≡ true = refused_found (lookup xs q) c.in_err-n.field-0.0 room c.in_err-n.ensures.outcome in
     record {
-      says = λ t. hit_says xs ps q c.args.buffer.now c.recall.new.buffer c.from-residual.result t.1.1 hit (same ∙ c.recall.ensures.outcome) (IfOk-from_err c.from-residual.result (λ n. n ≡ option_map length (lookup xs q)) c.from-residual.ensures.0) c.recall.ensures.filled;
-      within = IfOk-from_err c.from-residual.result (λ o. IfSome o (λ n. n ≤ room)) c.from-residual.ensures.0;
+      says = λ t. hit_says xs ps q c.args.buffer.now c.recall.new.buffer c.from_residual.result t.1.1 hit (same ∙ c.recall.ensures.outcome) (IfOk-from_err c.from_residual.result (λ n. n ≡ option_map length (lookup xs q)) c.from_residual.ensures.0) c.recall.ensures.filled;
+      within = IfOk-from_err c.from_residual.result (λ o. IfSome o (λ n. n ≤ room)) c.from_residual.ensures.0;
       stays = λ t. (t.0, subst (λ (x : List Pair). TrueCopies x ps) (sym c.recall.ensures.latest) (get_true (lookup xs q) room q xs ps ps t.1 refl (same_below xs ps q t.1.1 hit)));
       rows = refl;
       held = λ t. hit_kept xs (kept c.recall.new.self) ps q room t.1.1 hit c.recall.ensures.latest;
@@ -52,7 +52,7 @@ returns-in-None g c =
     let ps = g.S.Store.pairs s.below in
     let ps' = g.S.Store.pairs c.fetch.new.self.below in
     let buffer = c.args.buffer.now in
-    let said = c.in-ok-n.ensures in
+    let said = c.in_ok-n.ensures in
     let miss : lookup xs q ≡ None = told_none (lookup xs q) (sym c.in-None.is ∙ said.told) in
     let same : c.recall.new.buffer ≡ buffer = said.filled ∙ ap (λ (o : Option (List ℕ)). get_buffer o buffer) miss in
     let calm : kept c.recall.new.self ≡ xs = said.latest ∙ ap (λ (o : Option (List ℕ)). after_get o (length buffer) q xs) miss in

@@ -16,23 +16,23 @@ returns g c =
     let ps = g.S.Store.pairs s.below in
     let ps' = g.S.Store.pairs c.put.new.self in
     record {
-      says = λ t. c.in-ok-put.ensures.says t.0;
-      stays = λ t. (c.put.ensures.stays t.0, subst (λ (x : List Pair). TrueCopies x ps') (sym c.admit.ensures) (put_true g.S.Store.limit (g.S.Store.rows s.below) 0 q bs (kept s.copies) ps ps' t.1 (c.in-ok-put.ensures.says t.0)));
+      says = λ t. c.in_ok-put.ensures.says t.0;
+      stays = λ t. (c.put.ensures.stays t.0, subst (λ (x : List Pair). TrueCopies x ps') (sym c.admit.ensures) (put_true g.S.Store.limit (g.S.Store.rows s.below) 0 q bs (kept s.copies) ps ps' t.1 (c.in_ok-put.ensures.says t.0)));
       rows = c.put.ensures.rows;
       held = c.admit.ensures;
     }
 
-pub returns-in-err-put : goal.returns-in-err-put
-returns-in-err-put g c =
+pub returns-in_err-put : goal.returns-in_err-put
+returns-in_err-put g c =
     let s = c.args.self.now in
     let q = c.args.name.bytes in
     let bs = c.args.content.now in
     let xs = kept s.copies in
     let ps = g.S.Store.pairs s.below in
     let ps' = g.S.Store.pairs c.put.new.self in
-    let p = err_from_is_err_and c.from-residual.result c.from-residual.ensures.1 in
-    let same : answer c.from-residual.result ≡ answer c.put.result = search rules in
-    let calm : after_put (answer c.from-residual.result) q bs xs ≡ xs = put_refused c.from-residual.result p.0 q bs xs p.1 in
+    let p = err_from_is_err_and c.from_residual.result c.from_residual.ensures.1 in
+    let same : answer c.from_residual.result ≡ answer c.put.result = search rules in
+    let calm : after_put (answer c.from_residual.result) q bs xs ≡ xs = put_refused c.from_residual.result p.0 q bs xs p.1 in
     record {
       says = λ t. subst (λ (n : ℕ). PutSays g.S.Store.limit (g.S.Store.rows s.below) ps ps' q bs n) (sym same) (c.put.ensures.says t.0);
       stays =

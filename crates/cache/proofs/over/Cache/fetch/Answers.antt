@@ -13,7 +13,7 @@ returns g c =
       rows = search rules;
       latest =
           λ s.
-          let says = c.in-ok-n.ensures.says s in
+          let says = c.in_ok-n.ensures.says s in
           let q = c.args.name.bytes in
           fetched (lookup (g.S.Store.pairs c.args.self.now.below) q) c.in-Some.n c.args.buffer.now c.get.new.buffer q (kept c.args.self.now.copies) (kept c.admit.new.self) (sym c.in-Some.is ∙ says.told) says.outcome says.filled c.admit.ensures;
     }

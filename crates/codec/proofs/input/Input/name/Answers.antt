@@ -13,9 +13,9 @@ returns-then-self-lt8 c =
 pub returns-in-Ok : goal.returns-in-Ok
 returns-in-Ok c =
     let bs = c.args.self.now.rest.now in
-    ap (λ cs. Some (c.in-Ok.name, cs)) (take_rest bs 8) ∙ name_of_yes (take 8 bs) _ refl (drop 8 bs) c.in-Ok.name (c.in-Ok.ensures ∙ c.copy-from-slice.ensures.after)
+    ap (λ cs. Some (c.in-Ok.name, cs)) (take_rest bs 8) ∙ name_of_yes (take 8 bs) _ refl (drop 8 bs) c.in-Ok.name (c.in-Ok.ensures ∙ c.copy_from_slice.ensures.after)
 
 pub returns-in-Err : goal.returns-in-Err
 returns-in-Err c =
     let bs = c.args.self.now.rest.now in
-    name_of_no (take 8 bs) _ refl (drop 8 bs) (sym (ap padded_name c.copy-from-slice.ensures.after) ∙ c.in-Err.ensures.1)
+    name_of_no (take 8 bs) _ refl (drop 8 bs) (sym (ap padded_name c.copy_from_slice.ensures.after) ∙ c.in-Err.ensures.1)

@@ -54,7 +54,7 @@ returns c =
     record {
       means =
           c.compile.ensures
-          ∙ (λ i. with_names (c.as-slice.ensures i) o (c.as-slice-2.ensures i) (misnamed (c.as-slice-2.ensures i) 0 (c.as-slice-2.ensures i)))
-          ∙ lines_are source imports _ c.admits.ensures (held c.read.new.tokens) c.if-not-admits.false is (Ok ds) c.in-default.ensures;
+          ∙ (λ i. with_names (c.as_slice.ensures i) o (c.as_slice-2.ensures i) (misnamed (c.as_slice-2.ensures i) 0 (c.as_slice-2.ensures i)))
+          ∙ lines_are source imports _ c.admits.ensures (held c.read.new.tokens) c.if-not-admits.false is (Ok ds) c.in_default.ensures;
       counts = refl;
     }

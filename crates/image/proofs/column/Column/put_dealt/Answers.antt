@@ -8,7 +8,7 @@ pub returns : goal.returns
 returns g c =
     let put = g.T.Field.format.put in
     let xs = lists c.args.units c.args.self.now in
-    let end = c.put-pair-end in
-    lays_both c.args.at (pair.put (length (flat xs))) (deal put 0 xs) c.args.buffer.now end.new.buffer c.put-rows.new.buffer end.result c.put-rows.result
+    let end = c.put_pair-end in
+    lays_both c.args.at (pair.put (length (flat xs))) (deal put 0 xs) c.args.buffer.now end.new.buffer c.put_rows.new.buffer end.result c.put_rows.result
     (lays_as c.args.at (pair.put c.total.result) (pair.put (length (flat xs))) c.args.buffer.now end.new.buffer end.result (ap pair.put c.total.ensures.value) end.ensures)
-    c.put-rows.ensures
+    c.put_rows.ensures

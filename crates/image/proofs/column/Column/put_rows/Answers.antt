@@ -17,9 +17,9 @@ loop-k-preserved g c =
     let k = c.loop-k.k in
     let row = λ (x : g.row.T.Denot). k ∷ put x in
     let h : k < length xs = omega (arith, c.loop-k-test.true, column_length c.args.self.now c.args.units c.requires) in
-    lays_as c.args.at (deal put 0 (take k xs) ++ each row c.list.result.now) (deal put 0 (take (k + 1) xs)) c.args.buffer.now c.put-run-end.new.buffer c.put-run-end.result
+    lays_as c.args.at (deal put 0 (take k xs) ++ each row c.list.result.now) (deal put 0 (take (k + 1) xs)) c.args.buffer.now c.put_run-end.new.buffer c.put_run-end.result
     (ap (λ y. deal put 0 (take k xs) ++ each row y) (c.list.ensures.value c.args.units c.loop-k-test.true) ∙ deal-more put xs k h)
-    (lays_both c.args.at (deal put 0 (take k xs)) (each row c.list.result.now) c.args.buffer.now c.loop-k.buffer c.put-run-end.new.buffer c.loop-k.end c.put-run-end.result c.loop-k.invariant c.put-run-end.ensures)
+    (lays_both c.args.at (deal put 0 (take k xs)) (each row c.list.result.now) c.args.buffer.now c.loop-k.buffer c.put_run-end.new.buffer c.loop-k.end c.put_run-end.result c.loop-k.invariant c.put_run-end.ensures)
 
 pub returns : goal.returns
 returns g c =

@@ -5,4 +5,4 @@ use Rattle.image.proofs.fields.TargetField.append.Goals as goal
 
 pub returns : goal.returns
 returns c =
-    adds_both (held c.args.out.now) (byte.put c.args.self.now.unit) (held c.put-byte.new.out) (byte.put c.args.self.now.entry) (held c.put-byte-2.new.out) c.put-byte.ensures c.put-byte-2.ensures
+    adds_both (held c.args.out.now) (byte.put c.args.self.now.unit) (held c.put_byte.new.out) (byte.put c.args.self.now.entry) (held c.put_byte-2.new.out) c.put_byte.ensures c.put_byte-2.ensures

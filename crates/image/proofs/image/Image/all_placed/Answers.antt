@@ -22,19 +22,19 @@ module _ (cs ess : List (List ℕ)) (k : ℕ) (c es : List ℕ) (t : Bool) (h : 
   stops : t ≡ false → false ≡ placed cs ess
   stops e = ap (λ b. b && placed (drop (k + 1) cs) (drop (k + 1) ess)) (sym e) ∙ turn
 
-pub returns-then-not-all-below : goal.returns-then-not-all-below
-returns-then-not-all-below c =
+pub returns-then-not-all_below : goal.returns-then-not-all_below
+returns-then-not-all_below c =
     let i = c.args.self.now in
     let n = length (held i.names) in
     let h : c.loop-k.k < n = omega (arith, c.loop-k-test.true, c.len-k-end.ensures) in
-    stops (units i).codes (units i).entries c.loop-k.k c.list-in-loop-k.result.now c.list.result.now c.all-below.result (omega (arith, column_length i.codes n (few_units i))) (omega (arith, column_length i.entries n (few_units i))) (c.list-in-loop-k.ensures.value n h) (c.list.ensures.value n h) c.loop-k.invariant c.all-below.ensures c.if-not-all-below.true
+    stops (units i).codes (units i).entries c.loop-k.k c.list-in-loop-k.result.now c.list.result.now c.all_below.result (omega (arith, column_length i.codes n (few_units i))) (omega (arith, column_length i.entries n (few_units i))) (c.list-in-loop-k.ensures.value n h) (c.list.ensures.value n h) c.loop-k.invariant c.all_below.ensures c.if-not-all_below.true
 
 pub loop-k-preserved : goal.loop-k-preserved
 loop-k-preserved c =
     let i = c.args.self.now in
     let n = length (held i.names) in
     let h : c.loop-k.k < n = omega (arith, c.loop-k-test.true, c.len-k-end.ensures) in
-    goes (units i).codes (units i).entries c.loop-k.k c.list-in-loop-k.result.now c.list.result.now c.all-below.result (omega (arith, column_length i.codes n (few_units i))) (omega (arith, column_length i.entries n (few_units i))) (c.list-in-loop-k.ensures.value n h) (c.list.ensures.value n h) c.loop-k.invariant c.all-below.ensures c.if-not-all-below.false
+    goes (units i).codes (units i).entries c.loop-k.k c.list-in-loop-k.result.now c.list.result.now c.all_below.result (omega (arith, column_length i.codes n (few_units i))) (omega (arith, column_length i.entries n (few_units i))) (c.list-in-loop-k.ensures.value n h) (c.list.ensures.value n h) c.loop-k.invariant c.all_below.ensures c.if-not-all_below.false
 
 pub returns : goal.returns
 returns c =

@@ -19,7 +19,7 @@ returns c =
     let bs = image_bytes u in
     let buffer = c.args.buffer.now in
     let h : length bs ≤ length buffer = omega (arith, c.if-size-buffer.false, c.size.ensures) in
-    let p = from_start bs buffer c.put-sections.new.buffer c.put-sections.result c.put-sections.ensures h in
+    let p = from_start bs buffer c.put_sections.new.buffer c.put_sections.result c.put_sections.ensures h in
     record {
       number = fitting (length bs) (length buffer) h;
       written = p;

@@ -6,8 +6,8 @@ use Rattle.log.specs.Chain.{records, log_pairs}
 use Rattle.log.proofs.Marks.{longer_by, once_more, length_more}
 use Rattle.log.proofs.logs.LogStore.append.Goals as goal
 
-pub invariant-of-self : goal.invariant-of-self
-invariant-of-self c =
+pub invariant_of-self : goal.invariant_of-self
+invariant_of-self c =
     let s = c.args.self.now in
     let q = c.args.name.bytes in
     let bs = c.args.content.now in

@@ -6,16 +6,16 @@ use Rattle.log.specs.Chain.{records, log_pairs}
 use Rattle.log.proofs.Marks.{ended_by, marked_none, cut}
 use Rattle.log.proofs.logs.LogStore.end_pair.Goals as goal
 
-pub overflow-sub-self : goal.overflow-sub-self
-overflow-sub-self c =
+pub overflow_sub-self : goal.overflow_sub-self
+overflow_sub-self c =
     let s = c.args.self.now in
     let e = ended_by s.end (vec_items s.area) c.deref.result.now (vec_items c.bury.new.area) c.args.name.bytes c.in-Some.at c.deref.ensures.value s.good s.apart c.in-Some.ensures.place c.bury.ensures.after in
     let n = e.number in
     let m = s.number in
     omega arith
 
-pub invariant-of-self : goal.invariant-of-self
-invariant-of-self c =
+pub invariant_of-self : goal.invariant_of-self
+invariant_of-self c =
     let s = c.args.self.now in
     let e = ended_by s.end (vec_items s.area) c.deref.result.now (vec_items c.bury.new.area) c.args.name.bytes c.in-Some.at c.deref.ensures.value s.good s.apart c.in-Some.ensures.place c.bury.ensures.after in
     let n = e.number in

@@ -16,6 +16,6 @@ returns-then-self c =
     let ps = log_pairs (records (take s.end xs)) in
     let n = s.number in
     let full : leb s.rows (length ps) ≡ true = le-leb s.rows (length ps) (let t = c.if-self.true in omega arith) in
-    let new : c.is-none.result ≡ not (has (log_pairs (records log)) q) = none_by c.find.result c.is-none.result (λ at. content (between at (length log) log)) (lookup (log_pairs (records log)) q) c.is-none.ensures c.find.ensures.finds in
-    let here : c.is-none.result ≡ not (has ps q) = new ∙ ap (λ (x : List ℕ). not (has (log_pairs (records x)) q)) (cut s.end xs c.deref.result.now c.deref.ensures.value) in
+    let new : c.is_none.result ≡ not (has (log_pairs (records log)) q) = none_by c.find.result c.is_none.result (λ at. content (between at (length log) log)) (lookup (log_pairs (records log)) q) c.is_none.ensures c.find.ensures.finds in
+    let here : c.is_none.result ≡ not (has ps q) = new ∙ ap (λ (x : List ℕ). not (has (log_pairs (records x)) q)) (cut s.end xs c.deref.result.now c.deref.ensures.value) in
     here ∙ ap (λ (b : Bool). b && not (has ps q)) (sym full)

@@ -4,8 +4,8 @@ use Rattle.area.specs.Layout.{rows_of, slot_size}
 use Rattle.log.proofs.Marks.{roomy_as_is, roomy_slid, slid_fits, slid_inside}
 use Rattle.log.proofs.logs.LogStore.make_room.Goals as goal
 
-pub invariant-of-self : goal.invariant-of-self
-invariant-of-self c =
+pub invariant_of-self : goal.invariant_of-self
+invariant_of-self c =
     let s = c.args.self.now in
     let xs = vec_items s.area in
     let ys = vec_items c.slide-self.new.area in

@@ -41,5 +41,5 @@ returns c =
     let few = p.few in
     let enough : length vs ≤ length c.args.self.now.places = let wide = c.args.self.now.wide in omega arith in
     arranged vs c.args.self.now.places c.order.new.places c.order.result (ordered by_name.cmp (names vs) (needs 0 vs))
-    (told vs c.as-slice.result.now c.as-slice-2.result.now c.args.self.now.places c.order.new.places c.order.result (c.as-slice.ensures ∙ c.requires) (c.as-slice-2.ensures ∙ c.list-needs.ensures) enough (c.order.ensures.answers by_name))
+    (told vs c.as_slice.result.now c.as_slice-2.result.now c.args.self.now.places c.order.new.places c.order.result (c.as_slice.ensures ∙ c.requires) (c.as_slice-2.ensures ∙ c.list_needs.ensures) enough (c.order.ensures.answers by_name))
     (lawful by_name (names vs) (needs 0 vs))

@@ -39,39 +39,39 @@ module _ (vs : List Member) (none : None ≡ smallest by_name.cmp (lacks vs vs) 
   in_order (all d) places r n e no_stop h = ap linked (ap (λ k. take k places) e ∙ h.1)
   in_order (stuck d j) places r n e no_stop h = absurd (no_stop j h.0)
 
-pub name-at-unit-requires : goal.name-at-unit-requires
-name-at-unit-requires c = let b = lacks_below (members c.args.project.now) c.in-Some.i c.in-Some.ensures.value in let n = members-length c.args.project.now in omega arith
+pub name_at-unit-requires : goal.name_at-unit-requires
+name_at-unit-requires c = let b = lacks_below (members c.args.project.now) c.in-Some.i c.in-Some.ensures.value in let n = members-length c.args.project.now in omega arith
 
-pub lack-position-requires : goal.lack-position-requires
-lack-position-requires c = let b = lacks_below (members c.args.project.now) c.in-Some.i c.in-Some.ensures.value in let n = members-length c.args.project.now in omega arith
+pub lack_position-requires : goal.lack_position-requires
+lack_position-requires c = let b = lacks_below (members c.args.project.now) c.in-Some.i c.in-Some.ensures.value in let n = members-length c.args.project.now in omega arith
 
-pub name-at-requires : goal.name-at-requires
-name-at-requires c =
+pub name_at-requires : goal.name_at-requires
+name_at-requires c =
     let vs = members c.args.project.now in
-    let b = (in_circle vs c.in-default.ensures.value (ordered by_name.cmp (names vs) (needs 0 vs)) c.arrange.new.self.places c.in-Stuck.i c.in-Stuck.ensures).0 in
+    let b = (in_circle vs c.in_default.ensures.value (ordered by_name.cmp (names vs) (needs 0 vs)) c.arrange.new.self.places c.in-Stuck.i c.in-Stuck.ensures).0 in
     let n = members-length c.args.project.now in
     omega arith
 
 pub returns-in-Some : goal.returns-in-Some
 returns-in-Some c =
-    let says = lacks-one (members c.args.project.now) c.in-Some.i c.name-at-unit.result c.lack-position.result c.in-Some.ensures.value c.name-at-unit.ensures c.lack-position.ensures in
+    let says = lacks-one (members c.args.project.now) c.in-Some.i c.name_at-unit.result c.lack_position.result c.in-Some.ensures.value c.name_at-unit.ensures c.lack_position.ensures in
     record { number = ap verdict_number says; says = says }
 
 pub returns-in-Stuck : goal.returns-in-Stuck
 returns-in-Stuck c =
     let vs = members c.args.project.now in
-    let none = c.in-default.ensures.value in
-    let says : circle (Some c.name-at.result) ≡ checked vs =
-    ap circle (sym c.name-at.ensures)
+    let none = c.in_default.ensures.value in
+    let says : circle (Some c.name_at.result) ≡ checked vs =
+    ap circle (sym c.name_at.ensures)
     ∙ sym (in_circle vs none (ordered by_name.cmp (names vs) (needs 0 vs)) c.arrange.new.self.places c.in-Stuck.i c.in-Stuck.ensures).1
     ∙ by_arranged vs none in
     record { number = ap verdict_number says; says = says }
 
-pub returns-in-default-arrange : goal.returns-in-default-arrange
-returns-in-default-arrange c =
+pub returns-in_default-arrange : goal.returns-in_default-arrange
+returns-in_default-arrange c =
     let vs = members c.args.project.now in
-    let none = c.in-default.ensures.value in
+    let none = c.in_default.ensures.value in
     let says : linked (take c.args.project.now.count c.arrange.new.self.places) ≡ checked vs =
-    in_order vs none (ordered by_name.cmp (names vs) (needs 0 vs)) c.arrange.new.self.places c.arrange.result c.args.project.now.count (sym (members-length c.args.project.now)) c.in-default-arrange.not-Stuck c.arrange.ensures
+    in_order vs none (ordered by_name.cmp (names vs) (needs 0 vs)) c.arrange.new.self.places c.arrange.result c.args.project.now.count (sym (members-length c.args.project.now)) c.in_default-arrange.not-Stuck c.arrange.ensures
     ∙ by_arranged vs none in
     record { number = ap verdict_number says; says = says }

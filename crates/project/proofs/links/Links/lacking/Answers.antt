@@ -16,12 +16,12 @@ pub returns : goal.returns
 returns c =
     let vs = members c.args.project.now in
     let all : length (names vs) ≡ length vs = length-map vs (λ (v : Member). v.name) in
-    let keys = c.as-slice.ensures ∙ c.list-names.ensures in
+    let keys = c.as_slice.ensures ∙ c.list_names.ensures in
     record {
       value =
-          c.smallest-left.ensures by_name
-          ∙ (λ j. left by_name.cmp (keys j) (c.as-slice-2.ensures j))
-          ∙ smallest-same by_name (λ i. not (placed (held c.list-whole.new.whole) i)) (lacks vs vs) (names vs)
-          (λ i h. sym (ap not (c.list-whole.ensures i (omega arith)) ∙ twice (lacks vs vs i)));
-      names = c.list-names.ensures;
+          c.smallest_left.ensures by_name
+          ∙ (λ j. left by_name.cmp (keys j) (c.as_slice-2.ensures j))
+          ∙ smallest-same by_name (λ i. not (placed (held c.list_whole.new.whole) i)) (lacks vs vs) (names vs)
+          (λ i h. sym (ap not (c.list_whole.ensures i (omega arith)) ∙ twice (lacks vs vs i)));
+      names = c.list_names.ensures;
     }

@@ -20,5 +20,5 @@ returns c =
     let as_many : length (map member rows) ≡ length rows = length-map rows member in
     record {
       answers = sym (ap (λ b. cond b 14 0) (lt-leb 24 (length (members p)) (omega arith)));
-      after = ap (take (p.count + 1)) c.fill-row.ensures.rows ∙ take_more_set (map member rows) p.count _ (omega arith);
+      after = ap (take (p.count + 1)) c.fill_row.ensures.rows ∙ take_more_set (map member rows) p.count _ (omega arith);
     }

@@ -15,7 +15,7 @@ returns c =
     let as_many : length (map member rows) ≡ length rows = length-map rows member in
     let last : suc n ≡ p.count = omega arith in
     let below : n < length (map member rows) = omega arith in
-    ap (λ xs. take n (map member xs)) (c.push-reserved.ensures.items ∙ ap (λ xs. xs ++ c.remove-row.result ∷ []) c.remove-row.ensures.items)
+    ap (λ xs. take n (map member xs)) (c.push_reserved.ensures.items ∙ ap (λ xs. xs ++ c.remove-row.result ∷ []) c.remove-row.ensures.items)
     ∙ ap (take n) (map-append member (remove rows c.args.i) (c.remove-row.result ∷ []) ∙ ap (λ xs. xs ++ member c.remove-row.result ∷ []) (map_removed member rows c.args.i))
     ∙ take_removed (map member rows) (member c.remove-row.result) c.args.i n (omega arith) below
     ∙ ap (λ k. remove (take k (map member rows)) c.args.i) last

@@ -23,16 +23,16 @@ made : (p : Project) (i : ℕ) (u : Unit) (imports : List Name) (r : Option ℕ)
 made p i u imports r h e f q = ap position (q ∙ ap (lack (members p)) f) ∙ ap (lack_at (members p)) (sym (nth-row p i u h e))
 
 below : (c : goal.In-Some) → c.in-Some.k < 4
-below c = few (members c.args.self.now) c.index.result.now c.in-Some.k (ap (lack (members c.args.self.now)) (sym c.as-slice.ensures) ∙ sym c.in-Some.ensures)
+below c = few (members c.args.self.now) c.index.result.now c.in-Some.k (ap (lack (members c.args.self.now)) (sym c.as_slice.ensures) ∙ sym c.in-Some.ensures)
 
-pub overflow-cast-result : goal.overflow-cast-result
-overflow-cast-result c = let k = below c in omega arith
+pub overflow_cast-result : goal.overflow_cast-result
+overflow_cast-result c = let k = below c in omega arith
 
-pub overflow-add-result : goal.overflow-add-result
-overflow-add-result c = let k = below c in omega arith
+pub overflow_add-result : goal.overflow_add-result
+overflow_add-result c = let k = below c in omega arith
 
 pub returns-in-Some : goal.returns-in-Some
-returns-in-Some c = made c.args.self.now c.args.i c.index.result.now c.as-slice.result.now (Some c.in-Some.k) c.requires c.index.ensures c.as-slice.ensures c.in-Some.ensures
+returns-in-Some c = made c.args.self.now c.args.i c.index.result.now c.as_slice.result.now (Some c.in-Some.k) c.requires c.index.ensures c.as_slice.ensures c.in-Some.ensures
 
 pub returns-in-None : goal.returns-in-None
-returns-in-None c = made c.args.self.now c.args.i c.index.result.now c.as-slice.result.now None c.requires c.index.ensures c.as-slice.ensures c.in-None.ensures
+returns-in-None c = made c.args.self.now c.args.i c.index.result.now c.as_slice.result.now None c.requires c.index.ensures c.as_slice.ensures c.in-None.ensures

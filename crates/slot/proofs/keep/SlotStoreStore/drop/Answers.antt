@@ -7,10 +7,10 @@ use Rattle.slot.proofs.Changes.{dropped, found}
 use Rattle.slot.proofs.keep.SlotStoreStore.drop.Goals as goal
 
 slot_of : (c : goal.After-bury) → SlotOf c.args.self.now.rows (vec_items c.args.self.now.area) c.args.name.bytes c.in-Some.i
-slot_of c = subst (λ (x : List ℕ). SlotOf c.args.self.now.rows x c.args.name.bytes c.in-Some.i) c.as-slice.ensures.value c.in-Some.ensures.slot
+slot_of c = subst (λ (x : List ℕ). SlotOf c.args.self.now.rows x c.args.name.bytes c.in-Some.i) c.as_slice.ensures.value c.in-Some.ensures.slot
 
-pub invariant-of-self : goal.invariant-of-self
-invariant-of-self c =
+pub invariant_of-self : goal.invariant_of-self
+invariant_of-self c =
     let n = c.args.self.now.rows in
     let gone = dropped n (vec_items c.args.self.now.area) c.args.name.bytes c.in-Some.i (slot_of c) c.args.self.now.apart in
     (c.args.self.now.counted ∙ ap rows_of (sym c.bury.ensures.len), (ap (λ (x : List ℕ). once (slot_pairs n x)) c.bury.ensures.after ∙ gone.1, tt))
@@ -18,7 +18,7 @@ invariant-of-self c =
 pub returns-in-Some : goal.returns-in-Some
 returns-in-Some c =
     let n = c.args.self.now.rows in
-    let s = subst (λ (x : List ℕ). SlotOf n x c.args.name.bytes c.in-Some.i) c.as-slice.ensures.value c.in-Some.ensures.slot in
+    let s = subst (λ (x : List ℕ). SlotOf n x c.args.name.bytes c.in-Some.i) c.as_slice.ensures.value c.in-Some.ensures.slot in
     let gone = dropped n (vec_items c.args.self.now.area) c.args.name.bytes c.in-Some.i s c.args.self.now.apart in
     record {
       says =
@@ -34,5 +34,5 @@ returns-in-Some c =
 pub returns-in-None : goal.returns-in-None
 returns-in-None c =
     let n = c.args.self.now.rows in
-    let none : has (slot_pairs n (vec_items c.args.self.now.area)) c.args.name.bytes ≡ false = subst (λ (x : List ℕ). has (slot_pairs n x) c.args.name.bytes ≡ false) c.as-slice.ensures.value c.in-None.ensures.slot in
+    let none : has (slot_pairs n (vec_items c.args.self.now.area)) c.args.name.bytes ≡ false = subst (λ (x : List ℕ). has (slot_pairs n x) c.args.name.bytes ≡ false) c.as_slice.ensures.value c.in-None.ensures.slot in
     record { says = λ _. record { found = sym none; pairs = same_pairs_is _ _ (sym (without_none c.args.name.bytes (slot_pairs n (vec_items c.args.self.now.area)) none)) }; stays = λ _. tt; rows = refl }

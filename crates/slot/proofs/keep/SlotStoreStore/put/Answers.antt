@@ -5,14 +5,14 @@ use Rattle.slot.specs.Slots.{SlotFor}
 use Rattle.slot.proofs.Changes.{put-done}
 use Rattle.slot.proofs.keep.SlotStoreStore.put.Goals as goal
 
-pub invariant-of-self : goal.invariant-of-self
-invariant-of-self c =
+pub invariant_of-self : goal.invariant_of-self
+invariant_of-self c =
     let n = c.args.self.now.rows in
     let v = c.args.self.now.area in
     let q = c.args.name.bytes in
     let bs = c.args.content.now in
-    let s = subst (λ (x : List ℕ). SlotFor n x q c.in-Some.i) c.as-slice.ensures.value c.in-Some.ensures in
-    let done = put-done n (vec_len v) (vec_items v) (vec_items c.write.new.area) q bs c.in-Some.i c.write.result (name-length q c.args.name.valid) c.if-content-gt-LONGEST.false c.args.self.now.counted (sym c.as-slice.ensures.len ∙ ap length c.as-slice.ensures.value) c.write.ensures.fits c.write.ensures.after s c.args.self.now.apart in
+    let s = subst (λ (x : List ℕ). SlotFor n x q c.in-Some.i) c.as_slice.ensures.value c.in-Some.ensures in
+    let done = put-done n (vec_len v) (vec_items v) (vec_items c.write.new.area) q bs c.in-Some.i c.write.result (name-length q c.args.name.valid) c.if-content-gt-LONGEST.false c.args.self.now.counted (sym c.as_slice.ensures.len ∙ ap length c.as_slice.ensures.value) c.write.ensures.fits c.write.ensures.after s c.args.self.now.apart in
     (c.args.self.now.counted ∙ ap rows_of (sym c.write.ensures.len), (done.0.1, tt))
 
 pub returns : goal.returns
@@ -21,6 +21,6 @@ returns c =
     let v = c.args.self.now.area in
     let q = c.args.name.bytes in
     let bs = c.args.content.now in
-    let s = subst (λ (x : List ℕ). SlotFor n x q c.in-Some.i) c.as-slice.ensures.value c.in-Some.ensures in
-    let done = put-done n (vec_len v) (vec_items v) (vec_items c.write.new.area) q bs c.in-Some.i c.write.result (name-length q c.args.name.valid) c.if-content-gt-LONGEST.false c.args.self.now.counted (sym c.as-slice.ensures.len ∙ ap length c.as-slice.ensures.value) c.write.ensures.fits c.write.ensures.after s c.args.self.now.apart in
+    let s = subst (λ (x : List ℕ). SlotFor n x q c.in-Some.i) c.as_slice.ensures.value c.in-Some.ensures in
+    let done = put-done n (vec_len v) (vec_items v) (vec_items c.write.new.area) q bs c.in-Some.i c.write.result (name-length q c.args.name.valid) c.if-content-gt-LONGEST.false c.args.self.now.counted (sym c.as_slice.ensures.len ∙ ap length c.as_slice.ensures.value) c.write.ensures.fits c.write.ensures.after s c.args.self.now.apart in
     record { says = λ _. record { outcome = done.1; pairs = done.0.0 }; stays = λ _. tt; rows = refl }
