@@ -98,7 +98,7 @@ module _ {K : Type 0} {R : K → K → Ordering} (o : IsTotalOrder R) where
       earlier k l true p true q = absurd (both_ways (lt (get_or (x ∷ xs) b x) (get_or (x ∷ xs) k x)) (unbeaten_to test (get_or (x ∷ xs) k x) (x ∷ xs) x q b h.0 h.1) (h.3 k x l p))
 
 -- what a loop over the items holds at place i: the best of those before that are ready
-abbrev pub Held : {K : Type 0} (R : K → K → Ordering → Type 0) → List K → List (Need K) → List ℕ → ℕ → Option ℕ → Type 0
+abbrev pub Held : {K : Type 0} (R : K → K → Ordering) → List K → List (Need K) → List ℕ → ℕ → Option ℕ → Type 0
 Held R keys needs done i best = IfSome best (λ b. b < length keys) × ((o : IsTotalOrder R) → Least o (ready R keys needs done) keys i best)
 
 module _ {K : Type 0} (R : K → K → Ordering) (keys : List K) (needs : List (Need K)) (done : List ℕ) (i : ℕ) (r : Bool) (is : (o : IsTotalOrder R) → r ≡ ready R keys needs done i) where
@@ -141,7 +141,7 @@ module _ {K : Type 0} {R : K → K → Ordering} (o : IsTotalOrder R) (test : �
       (more.0, subst (λ k. Least o test keys k more.0) (add-one n) more.1)
 
 -- what the smallest says: it passes, and where there is none nothing passes
-pub smallest_least : {K : Type 0} {R : K → K → Ordering → Type 0} (o : IsTotalOrder R) (test : ℕ → Bool) (keys : List K) → Least o test keys (length keys) (smallest R test keys)
+pub smallest_least : {K : Type 0} {R : K → K → Ordering} (o : IsTotalOrder R) (test : ℕ → Bool) (keys : List K) → Least o test keys (length keys) (smallest R test keys)
 smallest_least o test [] = λ k l. absurd (omega arith)
 smallest_least o test (x ∷ xs) =
     let best = least_exists o test (x ∷ xs) (length (x ∷ xs)) x (omega arith) in
@@ -158,8 +158,8 @@ module _ {K : Type 0} {R : K → K → Ordering} (o : IsTotalOrder R) (test : �
   none_passes e = at-smallest None e
 
 -- tests that agree on the items have one smallest
-pub smallest-same : {K : Type 0} {R : K → K → Ordering → Type 0} (o : IsTotalOrder R) (s t : ℕ → Bool) (keys : List K) → ((i : ℕ) → i < length keys → t i ≡ s i) → smallest R s keys ≡ smallest R t keys
-smallest-same o s t keys same = sym (least_is o t keys (smallest o.cmp s keys) (moved (smallest o.cmp s keys) (smallest_least o s keys)))
+pub smallest-same : {K : Type 0} {R : K → K → Ordering} (o : IsTotalOrder R) (s t : ℕ → Bool) (keys : List K) → ((i : ℕ) → i < length keys → t i ≡ s i) → smallest R s keys ≡ smallest R t keys
+smallest-same {R = R} o s t keys same = sym (least_is o t keys (smallest R s keys) (moved (smallest R s keys) (smallest_least o s keys)))
   where
     moved : (b : Option ℕ) → Least o s keys (length keys) b → Least o t keys (length keys) b
     moved None h = λ k l. same k l ∙ h k l

@@ -109,7 +109,8 @@ fn pick<K: Ord>(keys: &[K], needs: &[Need<K>], done: &[usize]) -> Option<usize>
 fn left_over<K: Ord>(keys: &[K], done: &[usize]) -> Option<usize>
     ensures { (o : IsTotalOrder K.Ord.cmp) → result ≡ left K.Ord.cmp keys.now done.now }
 {
-    pick(keys, &[], done)
+    let no_needs: [Need<K>; 0] = [];
+    pick(keys, &no_needs, done)
 }
 
 // Writes the place of each item in the list of keys, in the order in which they come.

@@ -1,18 +1,16 @@
-use Rattle.std.proofs.Common.{◌≡◌, ℕ, ◌+◌, ◌<◌, ◌≤◌, Bool, true, false, cond, List, [], ◌∷◌, length, get_or, drop, Some, None, Decides, Option, sym, refl, ap, ◌∙◌, subst}
+use Rattle.std.proofs.Common.{◌≡◌, ℕ, ◌+◌, ◌<◌, ◌≤◌, Bool, true, false, cond, List, [], ◌∷◌, length, get_or, drop, Some, None, Option, sym, refl, ap, ◌∙◌, subst}
 use Rattle.std.specs.Str.{bytes_eq}
-use Rattle.std.proofs.lemmas.Slice.Eq.{bytes_eq-Decides}
 use Rattle.std.proofs.lemmas.List.{at_drop_more, at_drop_all, get_or_default}
-use Rattle.std.proofs.lemmas.Bool.Decides.{same_from_decides}
 use Rattle.product.specs.Parts.{first_row}
 use Rattle.product.specs.declared.row.Row.{Row}
 use Rattle.product.proofs.interface.Interface.find.Goals as goal
 
 -- the turn at place i, where the row x stands, and t says whether it has the name
 module _ (name : List ℕ) (xs : List Row) (i : ℕ) (x : Row) (t : Bool) (h : i < length xs) (at : x ≡ get_or xs i x)
-    (inv : first_row name (drop i xs) ≡ first_row name xs) (decides : Decides t (x.name.bytes ≡ name)) where
+    (inv : first_row name (drop i xs) ≡ first_row name xs) (is : t ≡ bytes_eq x.name.bytes name) where
   turn : cond t (Some x) (first_row name (drop (i + 1) xs)) ≡ first_row name xs
   turn =
-      ap (λ b. cond b (Some x) (first_row name (drop (i + 1) xs))) (same_from_decides t (bytes_eq x.name.bytes name) decides (bytes_eq-Decides x.name.bytes name))
+      ap (λ b. cond b (Some x) (first_row name (drop (i + 1) xs))) is
       ∙ ap (λ y. first_row name (y ∷ drop (i + 1) xs)) at
       ∙ sym (at_drop_more (first_row name) xs i x h) ∙ inv
 
