@@ -1,5 +1,5 @@
 -- A bounded list is within its limit.
-use Rattle.std.proofs.Common.{◌≡◌, ℕ, ◌≤◌, length, vec_items, vec_len, arith}
+use Rattle.std.proofs.Common.{ℕ, ◌≤◌, length, arith}
 use Rattle.bounded.specs.Held.{held}
 use Rattle.bounded.specs.declared.list.Bounded.{Bounded}
 

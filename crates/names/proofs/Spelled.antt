@@ -1,8 +1,8 @@
 -- Written names are padded names with zero bytes behind.
-use Rattle.std.proofs.Common.{◌≡◌, ℕ, zero, suc, ◌+◌, ◌-◌, ◌<◌, ◌≤◌, Bool, true, false, cond, ◌&&◌, ◌||◌, eqb, leb, List, [], ◌∷◌, ◌++◌, length, get_or, drop, replicate, sym, refl, ap, ◌∙◌, arith, length-append}
+use Rattle.std.proofs.Common.{◌≡◌, ℕ, zero, suc, ◌-◌, ◌<◌, ◌≤◌, Bool, true, false, cond, ◌&&◌, ◌||◌, eqb, leb, List, [], ◌∷◌, ◌++◌, length, get_or, drop, replicate, sym, refl, ap, ◌∙◌, arith, length-append}
 use lib.ListN.{length-replicate}
 use Rattle.std.proofs.lemmas.Bool.{true≢false, and_parts, eqb-true, leb-true, le-leb, lt-leb, eq-eqb, ne_eqb}
-use Rattle.names.specs.Spelling.{letter, digit, continues, blank, tail, padded_name, plain, written_name, padded}
+use Rattle.names.specs.Spelling.{letter, continues, blank, tail, padded_name, plain, written_name, padded}
 
 blank_zeros : (n : ℕ) → blank (replicate n 0) ≡ true
 blank_zeros zero = refl

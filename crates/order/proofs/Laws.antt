@@ -1,13 +1,13 @@
 -- The order that the definition gives is the only list that meets the rule, and where it stops there is none.
-use Rattle.std.proofs.Common.{◌≡◌, ℕ, zero, suc, ◌+◌, ◌-◌, ◌<◌, ◌≤◌, Bool, true, false, cond, not, ◌&&◌, ◌||◌, eqb, ltb, ◌⊎◌, List, [], ◌∷◌, ◌++◌, length, get_or, take, drop, Some, None, Option, Ordering, unwrap_or, sym, refl, ap, ◌∙◌, subst, inl, inr, ⊎_elim, add-one, arith}
+use Rattle.std.proofs.Common.{◌≡◌, ℕ, zero, suc, ◌+◌, ◌<◌, ◌≤◌, Bool, true, false, cond, not, ◌&&◌, ◌||◌, eqb, List, [], ◌∷◌, ◌++◌, length, get_or, take, Some, None, Option, Ordering, unwrap_or, sym, refl, ap, ◌∙◌, subst, inl, inr, ⊎_elim, add-one, arith}
 use Rattle.std.specs.Ordering.{is_eq}
 use Rattle.std.specs.Cmp.{IsTotalOrder}
 use Rattle.std.proofs.lemmas.List.{take-append-le, take_at, get_or_append_left, get_or_at, length_push, take_all, take_more, length-take-le, get_or-take}
-use Rattle.std.proofs.lemmas.Bool.{true≢false, both_ways, cases_lt, cases_Bool, and_parts, and_from, not-true, not-false, lt-ltb, le-ltb, ltb-true, eqb-true, or_cases, or_left, or_right}
+use Rattle.std.proofs.lemmas.Bool.{true≢false, cases_lt, cases_Bool, and_parts, and_from, not-true, not-false, lt-ltb, le-ltb, eqb-true, or_cases, or_left, or_right}
 use Rattle.order.specs.declared.Need.{Need}
-use Rattle.order.specs.Dependency.{Outcome, all, stuck, placed, times, settled, free, ready, smallest, next, left, placing, ordered}
-use Rattle.order.specs.Law.{EachOnce, NeedsFirst, SmallestFirst, Proper, Lawful}
-use Rattle.order.proofs.Counts.{total, total_le, total_all, total_full, total_most, total_least, times-placed, placed-times, times_unplaced, times_push, times-at, stands}
+use Rattle.order.specs.Dependency.{Outcome, all, stuck, placed, times, settled, free, ready, next, left, placing, ordered}
+use Rattle.order.specs.Law.{EachOnce, NeedsFirst, SmallestFirst, Lawful}
+use Rattle.order.proofs.Counts.{total, total_le, total_all, total_full, total_most, total_least, times-placed, times_unplaced, times_push, times-at, stands}
 use Rattle.order.proofs.Least.{smallest_passes, none_passes}
 
 module _ {K : Type 0} (cmp : K → K → Ordering) where

@@ -1,11 +1,11 @@
 -- The smallest of the items that pass: how a loop finds it, and that there is one where any passes.
-use Rattle.std.proofs.Common.{◌≡◌, ℕ, zero, suc, ◌+◌, ◌<◌, ◌≤◌, Bool, true, false, cond, not, ◌&&◌, ◌⊎◌, List, [], ◌∷◌, length, get_or, is_some, IfSome, Some, None, Option, Ordering, sym, refl, ap, ◌∙◌, subst, inl, inr, ⊎_elim, add-one, arith, below_more}
+use Rattle.std.proofs.Common.{◌≡◌, ℕ, zero, suc, ◌+◌, ◌<◌, ◌≤◌, Bool, true, false, cond, not, ◌&&◌, List, [], ◌∷◌, length, get_or, is_some, IfSome, Some, None, Option, Ordering, sym, refl, ap, ◌∙◌, subst, ⊎_elim, add-one, arith, below_more}
 use Rattle.std.specs.Option.{option_map}
 use Rattle.std.specs.Ordering.{is_lt}
 use Rattle.std.specs.Cmp.{IsStrictWeakOrder, IsTotalOrder}
 use Rattle.std.proofs.lemmas.List.MinMax.{ranks_by}
 use Rattle.std.proofs.lemmas.List.{get_or_default}
-use Rattle.std.proofs.lemmas.Bool.{true≢false, both_ways, cases_Bool, and_parts, not-true, not_from_false, and_left}
+use Rattle.std.proofs.lemmas.Bool.{true≢false, both_ways, cases_Bool, and_parts, not-true, and_left}
 use Rattle.order.specs.declared.Need.{Need}
 use Rattle.order.specs.Dependency.{first, unbeaten, smallest, ready}
 

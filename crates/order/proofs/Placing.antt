@@ -1,11 +1,11 @@
 -- The turns of the loop that places one item after another.
-use Rattle.std.proofs.Common.{◌≡◌, ℕ, zero, suc, ◌+◌, ◌-◌, ◌<◌, ◌≤◌, Bool, true, false, cond, not, ◌&&◌, ltb, List, [], ◌∷◌, ◌++◌, length, take, drop, set, Some, None, Option, Ordering, unwrap_or, sym, refl, ap, ◌∙◌, subst, arith, length-take}
-use Rattle.std.proofs.lemmas.List.{take_more_set, drop-set-lt, take-append-drop, length-take-le, drop-drop, drop_more}
+use Rattle.std.proofs.Common.{◌≡◌, ℕ, suc, ◌+◌, ◌-◌, ◌<◌, ◌≤◌, Bool, true, false, cond, not, ◌&&◌, List, [], ◌∷◌, ◌++◌, length, take, drop, set, Some, None, Option, Ordering, unwrap_or, sym, refl, ap, ◌∙◌, subst, arith}
+use Rattle.std.proofs.lemmas.List.{take_more_set, drop-set-lt, take-append-drop, length-take-le, drop-drop}
 use Rattle.std.proofs.lemmas.Bool.{le-ltb}
 use Rattle.order.specs.declared.Need.{Need}
 use Rattle.order.specs.declared.Ordered.{Ordered}
 use Rattle.order.specs.declared.Ordered.TheVariants.{All, Stuck, Short}
-use Rattle.order.specs.Dependency.{Outcome, all, stuck, placed, ready, smallest, next, left, placing, ordered, Tells, Answers}
+use Rattle.order.specs.Dependency.{Outcome, all, stuck, placed, smallest, next, left, placing, ordered, Tells, Answers}
 
 and_true : (b : Bool) → (b && true) ≡ b
 and_true true = refl

@@ -1,5 +1,5 @@
 -- What an order is, said of the items alone: the definition of `ordered` is held to this.
-use Rattle.std.specs.Prelude.{◌≡◌, ℕ, ◌<◌, Bool, true, false, cond, List, length, take, Some, None, nat_lt, slice_index}
+use Rattle.std.specs.Prelude.{◌≡◌, ℕ, ◌<◌, true, false, cond, List, length, take, Some, nat_lt, slice_index}
 use Rattle.std.specs.declared.cmp.Ordering.{Ordering}
 use Rattle.order.specs.declared.Need.{Need}
 use Rattle.order.specs.Dependency.{Outcome, all, stuck, times, free, ready, next, left}

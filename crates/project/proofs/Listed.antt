@@ -1,12 +1,10 @@
 -- What the loops of a check list, one unit after another.
-use Rattle.std.proofs.Common.{◌≡◌, ℕ, zero, suc, ◌+◌, ◌<◌, ◌≤◌, Bool, true, false, cond, not, ◌&&◌, ◌||◌, eqb, ltb, ◌⊎◌, List, [], ◌∷◌, ◌++◌, map, length, get_or, take, is_some, sym, refl, ap, ◌∙◌, subst, inl, inr, add-zero, arith}
-use Rattle.std.proofs.lemmas.List.{append-nil, append_assoc, take_more, map_push, map_more}
+use Rattle.std.proofs.Common.{◌≡◌, ℕ, zero, suc, ◌+◌, ◌<◌, Bool, true, false, cond, not, ◌&&◌, ◌||◌, eqb, ltb, ◌⊎◌, List, [], ◌∷◌, ◌++◌, length, get_or, take, is_some, sym, refl, ap, ◌∙◌, inl, inr, add-zero, arith}
+use Rattle.std.proofs.lemmas.List.{append-nil, append_assoc, take_more}
 use Rattle.std.proofs.lemmas.Bool.{lt-ltb, le-ltb, eq-eqb, ne_eqb, cases_order}
-use Rattle.names.specs.declared.name.Name.{Name}
-use Rattle.order.specs.declared.Need.{Need}
 use Rattle.order.specs.Dependency.{placed}
 use Rattle.project.specs.Members.{Member}
-use Rattle.project.specs.Checked.{names, needs_for, needs, lack, lacks}
+use Rattle.project.specs.Checked.{needs_for, needs, lack, lacks}
 
 -- one element more, where there is room
 pub grown : {X : Type 0} (was now xs : List X) (x : X) (r : Bool) (n : ℕ) → r ≡ ltb (length was) n → now ≡ cond r (was ++ x ∷ []) was → length was < n → was ≡ xs → now ≡ xs ++ x ∷ []

@@ -1,4 +1,4 @@
-use Rattle.std.proofs.Common.{◌≡◌, ℕ, ◌-◌, List, take, unwrap_or, sym, refl, ap, ◌∙◌, arith, length-set}
+use Rattle.std.proofs.Common.{◌≡◌, ℕ, ◌-◌, List, take, unwrap_or, refl, ap, ◌∙◌, arith, length-set}
 use native.Mathlib.Nat.{sub-zero}
 use Rattle.order.specs.Dependency.{next, left}
 use Rattle.order.proofs.Placing.{placing_goes, rest_goes, placing_sticks, placing-ends}

@@ -1,4 +1,4 @@
-use Rattle.std.proofs.Common.{◌≡◌, ◌-◌, ◌≤◌, length, take, drop}
+use Rattle.std.proofs.Common.{◌≡◌, ◌-◌, length, take, drop}
 use Rattle.std.specs.Cmp.{IsTotalOrder}
 use Rattle.order.specs.Dependency.{placing, ordered}
 use Rattle.order.proofs.fill.Given as goal

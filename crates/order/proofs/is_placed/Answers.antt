@@ -1,4 +1,4 @@
-use Rattle.std.proofs.Common.{true, false, ◌||◌, eqb, sym, refl}
+use Rattle.std.proofs.Common.{true, false, ◌||◌, eqb, refl}
 use Rattle.std.proofs.lemmas.Bool.{eq-eqb, ne_eqb}
 use Rattle.names.proofs.Loops.{test_goes, test_ends}
 use Rattle.order.specs.Dependency.{placed}

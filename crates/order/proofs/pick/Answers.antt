@@ -1,4 +1,4 @@
-use Rattle.std.proofs.Common.{◌≡◌, ℕ, ◌≤◌, length, sym, refl, ap, ◌∙◌, subst, arith}
+use Rattle.std.proofs.Common.{◌≡◌, length, sym, subst, arith}
 use Rattle.order.proofs.Least.{Least, least_is, held_over, held_first, held_more, held_less}
 use Rattle.order.specs.Dependency.{ready}
 use Rattle.order.proofs.pick.Goals as goal

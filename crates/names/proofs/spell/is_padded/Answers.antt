@@ -1,6 +1,6 @@
 use Rattle.std.proofs.Common.{◌&&◌, drop, sym, ap, ◌∙◌}
 use Rattle.std.proofs.lemmas.List.{take_rest}
-use Rattle.names.proofs.Spelled.{padded-parts, padded_long}
+use Rattle.names.proofs.Spelled.{padded-parts}
 use Rattle.names.specs.Spelling.{tail}
 use Rattle.names.proofs.spell.is_padded.Goals as goal
 

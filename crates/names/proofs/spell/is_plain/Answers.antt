@@ -1,4 +1,4 @@
-use Rattle.std.proofs.Common.{sym, refl, ◌∙◌}
+use Rattle.std.proofs.Common.{sym, refl}
 use Rattle.names.proofs.Loops.{every_goes, every_stops, test_ends}
 use Rattle.names.specs.Spelling.{plain, continues}
 use Rattle.names.proofs.spell.is_plain.Goals as goal

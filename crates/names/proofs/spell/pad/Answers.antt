@@ -1,8 +1,8 @@
-use Rattle.std.proofs.Common.{◌≡◌, ℕ, ◌-◌, true, List, ◌++◌, length, drop, replicate, sym, ap, ◌∙◌, subst}
+use Rattle.std.proofs.Common.{◌≡◌, ℕ, ◌-◌, List, ◌++◌, length, drop, replicate, ap, ◌∙◌}
 use native.Mathlib.Nat.{sub-zero}
 use Rattle.std.proofs.lemmas.List.{drop-replicate}
 use Rattle.names.proofs.Spelled.{padded_is_name}
-use Rattle.names.specs.Spelling.{written_name, padded_name, padded}
+use Rattle.names.specs.Spelling.{padded_name, padded}
 use Rattle.names.proofs.spell.pad.Goals as goal
 
 -- eight zero bytes after the text was written over their front

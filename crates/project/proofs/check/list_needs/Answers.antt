@@ -1,9 +1,9 @@
-use Rattle.std.proofs.Common.{◌≡◌, ◌+◌, ◌*◌, ◌<◌, ◌≤◌, List, [], ◌∷◌, ◌++◌, map, length, get_or, take, sym, refl, ap, ◌∙◌, arith, length-append}
+use Rattle.std.proofs.Common.{◌≡◌, ◌≤◌, ◌++◌, length, ap, ◌∙◌, arith, length-append}
 use Rattle.std.proofs.lemmas.List.{take_all, length-map, length-take-le}
 use Rattle.bounded.specs.Held.{held}
 use Rattle.bounded.proofs.Few.{held_few}
 use Rattle.names.specs.declared.name.Name.{Name}
-use Rattle.project.specs.Members.{Member, member, members}
+use Rattle.project.specs.Members.{member, members}
 use Rattle.project.specs.Checked.{needs, needs_for}
 use Rattle.project.proofs.Rows.{row_at, members-length}
 use Rattle.project.proofs.Listed.{needs-more}

@@ -1,9 +1,8 @@
-use Rattle.std.proofs.Common.{◌≡◌, ℕ, ◌+◌, ◌<◌, ◌≤◌, true, false, not, ◌&&◌, ltb, List, [], ◌∷◌, ◌++◌, length, is_some, sym, refl, ap, ◌∙◌, subst, arith}
+use Rattle.std.proofs.Common.{◌≡◌, ◌<◌, not, ◌&&◌, [], ◌∷◌, ◌++◌, length, is_some, sym, refl, ap, ◌∙◌, arith}
 use Rattle.std.proofs.lemmas.List.{length_push}
 use Rattle.std.proofs.lemmas.Bool.{lt-ltb}
 use Rattle.bounded.specs.Held.{held}
-use Rattle.order.specs.Dependency.{placed}
-use Rattle.project.specs.Members.{Member, member, members}
+use Rattle.project.specs.Members.{member, members}
 use Rattle.project.specs.Checked.{lack, lacks}
 use Rattle.project.proofs.Rows.{row_at, members-length}
 use Rattle.project.proofs.Listed.{grown, lacks-at, whole-more, whole_same}

@@ -1,4 +1,4 @@
-use Rattle.std.proofs.Common.{◌≡◌, ℕ, ◌<◌, ◌≤◌, not, ◌&&◌, ltb, length}
+use Rattle.std.proofs.Common.{◌≡◌, ℕ, ◌≤◌, not, ◌&&◌, ltb, length}
 use Rattle.bounded.specs.Held.{held}
 use Rattle.order.specs.Dependency.{placed}
 use Rattle.project.specs.Members.{members}

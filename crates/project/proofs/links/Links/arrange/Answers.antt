@@ -1,12 +1,11 @@
-use Rattle.std.proofs.Common.{◌≡◌, ℕ, ◌<◌, ◌≤◌, Bool, true, false, cond, not, ltb, List, ◌++◌, length, take, drop, Some, None, sym, refl, ap, ◌∙◌, subst, arith}
+use Rattle.std.proofs.Common.{◌≡◌, ℕ, ◌≤◌, cond, not, List, length, take, drop, ap, ◌∙◌, subst, arith}
 use Rattle.std.proofs.lemmas.List.{length-map, take_at}
 use Rattle.std.proofs.lemmas.Bool.{le-ltb}
-use Rattle.bounded.specs.Held.{held}
 use Rattle.names.specs.declared.name.Name.{Name}
 use Rattle.names.specs.Ordered.{by_name, name_cmp}
 use Rattle.order.specs.declared.Need.{Need}
 use Rattle.order.specs.declared.Ordered.{Ordered}
-use Rattle.order.specs.declared.Ordered.TheVariants.{All, Stuck, Short}
+use Rattle.order.specs.declared.Ordered.TheVariants.{Short}
 use Rattle.order.specs.Dependency.{Outcome, all, stuck, placed, ordered, Tells, Answers}
 use Rattle.order.specs.Law.{Lawful}
 use Rattle.order.proofs.Laws.{lawful, once-length}

@@ -1,14 +1,14 @@
-use Rattle.std.proofs.Common.{◌≡◌, ℕ, ◌<◌, List, length, take, Some, None, Option, sym, refl, ap, ◌∙◌, subst, arith}
+use Rattle.std.proofs.Common.{◌≡◌, ℕ, ◌<◌, List, length, take, Some, None, sym, ap, ◌∙◌, arith}
 use Rattle.std.specs.List.{slice_get}
 use Rattle.std.proofs.lemmas.List.{length-map}
 use Rattle.names.specs.declared.name.Name.{Name}
 use Rattle.names.specs.Ordered.{by_name, name_cmp}
 use Rattle.order.specs.declared.Ordered.{Ordered}
-use Rattle.order.specs.declared.Ordered.TheVariants.{All, Stuck, Short}
+use Rattle.order.specs.declared.Ordered.TheVariants.{Stuck}
 use Rattle.order.specs.Dependency.{Outcome, all, stuck, smallest, ordered}
 use Rattle.order.proofs.Least.{smallest_passes}
 use Rattle.project.specs.Members.{Member, members}
-use Rattle.project.specs.Checked.{Verdict, missing, circle, linked, names, needs, lacks, lack_at, by_lack, by_order, checked, verdict_number, Arranged}
+use Rattle.project.specs.Checked.{missing, circle, linked, names, needs, lacks, lack_at, by_lack, by_order, checked, verdict_number, Arranged}
 use Rattle.project.proofs.Rows.{members-length}
 use Rattle.project.proofs.links.Links.check.Goals as goal
 

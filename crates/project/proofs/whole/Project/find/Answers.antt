@@ -1,4 +1,4 @@
-use Rattle.std.proofs.Common.{◌≡◌, ◌<◌, false, length, get_or, sym, refl, ap, ◌∙◌, subst, arith, below_more}
+use Rattle.std.proofs.Common.{◌≡◌, false, get_or, sym, ap, ◌∙◌, arith, below_more}
 use Rattle.order.proofs.Least.{first_is, first_none}
 use Rattle.project.specs.Members.{Member, member, members, same}
 use Rattle.project.proofs.Rows.{row_at, members-length}

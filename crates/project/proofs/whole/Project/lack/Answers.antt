@@ -1,4 +1,4 @@
-use Rattle.std.proofs.Common.{◌≡◌, not, is_some, sym, refl, ap, ◌∙◌, arith}
+use Rattle.std.proofs.Common.{not, is_some, sym, ap, ◌∙◌, arith}
 use Rattle.order.proofs.Least.{first_is, first_none}
 use Rattle.names.specs.declared.name.Name.{Name}
 use Rattle.project.specs.Members.{members, at}

@@ -1,4 +1,4 @@
-use Rattle.std.proofs.Common.{◌≡◌, ℕ, ◌+◌, ◌<◌, ◌≤◌, not, List, length, get_or, is_some, Some, None, vec_items, Option, sym, refl, ap, ◌∙◌, arith}
+use Rattle.std.proofs.Common.{◌≡◌, ℕ, ◌<◌, not, List, get_or, is_some, Some, None, vec_items, Option, sym, ap, ◌∙◌, arith}
 use Rattle.std.specs.List.{slice_get}
 use Rattle.names.specs.declared.name.Name.{Name}
 use Rattle.bounded.specs.Held.{held}
@@ -6,7 +6,7 @@ use Rattle.bounded.proofs.Few.{held_few}
 use Rattle.order.proofs.Least.{first_below}
 use Rattle.project.specs.declared.unit.Unit.{Unit}
 use Rattle.project.specs.declared.whole.Project.{Project}
-use Rattle.project.specs.Members.{Member, member, members, at}
+use Rattle.project.specs.Members.{Member, members, at}
 use Rattle.project.specs.Checked.{lack, lack_at, position}
 use Rattle.project.proofs.Rows.{nth-row}
 use Rattle.project.proofs.whole.Project.lack_position.Goals as goal

@@ -1,5 +1,5 @@
-use Rattle.std.proofs.Common.{◌≡◌, ℕ, ◌<◌, cond, List, [], ◌∷◌, ◌++◌, map, length, take, set, is_ok, vec_items, sym, refl, ap, ◌∙◌, arith}
-use Rattle.project.specs.Members.{Member, member, members, at, with}
+use Rattle.std.proofs.Common.{cond, map, take, is_ok, vec_items, sym, ap, ◌∙◌, arith}
+use Rattle.project.specs.Members.{Member, member, members}
 use Rattle.project.proofs.Rows.{members-length, with_at, with_none, take_of_set, put-new, put_old}
 use Rattle.project.proofs.whole.Project.put.Goals as goal
 

@@ -1,5 +1,5 @@
-use Rattle.std.proofs.Common.{◌≡◌, cond, is_some, sym, refl, ap, ◌∙◌, arith}
-use Rattle.project.specs.Members.{members, without}
+use Rattle.std.proofs.Common.{cond, is_some, sym, ap, ◌∙◌, arith}
+use Rattle.project.specs.Members.{members}
 use Rattle.project.proofs.Rows.{members-length, without_at}
 use Rattle.project.proofs.whole.Project.remove.Goals as goal
 
