@@ -1,7 +1,7 @@
 // Pictures of an area: a line for every record, with its offset, its mark, its name and its length.
 use area::layout::{HEADER, LENGTH_AT, NAME_AT, SLOT};
 use area::record_at::{is_live, length_of};
-use log::LogStore;
+use log_store::LogStore;
 use names::Name;
 use slot::SlotStore;
 use store::Store;

@@ -2,7 +2,7 @@
 use crate::{files, picture, script, usage};
 use anyhow::anyhow;
 use cache::Cache;
-use log::LogStore;
+use log_store::LogStore;
 use slot::SlotStore;
 
 pub fn run(rt: &HostRuntime, args: &[String]) -> anyhow::Result<()> {

@@ -1,7 +1,7 @@
 use area::layout::{HEADER, LENGTH_AT, NAME_AT};
 use area::record_at::{is_live, length_of};
 use cache::Cache;
-use log::LogStore;
+use log_store::LogStore;
 use names::Name;
 use slot::SlotStore;
 use std::fmt::Write;

@@ -1,0 +1,70 @@
+// The log store keeps the contract of every store, and says which records lie in the area after each call.
+ghost use Rattle.std.specs.Prelude.{◌≡◌, ℕ, List, [], length, if◌then◌else◌, vec_len, nat_eq};
+ghost use Rattle.names.specs.Refusals.{answer};
+ghost use Rattle.store.specs.Says.{PutSays, GetSays, DropSays, Within};
+ghost use Rattle.area.specs.Layout.{longest};
+ghost use Rattle.log_store.specs.Chain.{marked, log_put};
+ghost use Rattle.log_store.specs.Kept.{records_of, pairs_of};
+ghost use Rattle.std.proofs.Common.{rules, arith};
+
+use crate::logs::LogStore;
+use crate::scan::fetch;
+use area::layout::{HEADER, LONGEST};
+use names::{Name, Refusal};
+use store::Store;
+
+impl Store for LogStore {
+    const LIMIT: usize = LONGEST;
+
+    ghost limit = { longest };
+
+    ghost rows = { λ s. s.rows };
+
+    ghost pairs = { λ s. pairs_of s };
+
+    ghost sound = { λ _. Unit {0} };
+
+    ghost apart = { first_of (Prim.search rules, Prim.grind (arith, Self.row.coded.inj)) };
+
+    fn most() -> usize {
+        LONGEST
+    }
+
+    fn capacity(&self) -> usize {
+        self.rows
+    }
+
+    fn put(&mut self, name: Name, content: &[u8]) -> Result<(), Refusal>
+        ensures says { PutSays longest self.old.rows (pairs_of self.old) (pairs_of self.new) name.bytes content.now (answer result) }
+        ensures rows { self.new.rows ≡ self.old.rows }
+        ensures lie { records_of self.new ≡ (if nat_eq (answer result) 0 then log_put (vec_len self.old.area) (records_of self.old) name.bytes content.now else records_of self.old) }
+    {
+        if content.len() > LONGEST {
+            return Err(Refusal::RecordTooLong { unit: None });
+        }
+        if self.is_full_for(name) {
+            return Err(Refusal::StoreFull { unit: None });
+        }
+        let _ = self.end_pair(name);
+        self.make_room(HEADER + content.len());
+        self.append(name, content);
+        Ok(())
+    }
+
+    fn get(&mut self, name: Name, buffer: &mut [u8]) -> Result<Option<usize>, Refusal>
+        ensures says { GetSays (pairs_of self.old) (pairs_of self.new) name.bytes buffer.old buffer.new result }
+        ensures within { Within result (length buffer.old) }
+        ensures rows { self.new.rows ≡ self.old.rows }
+        ensures lie { records_of self.new ≡ records_of self.old }
+    {
+        fetch(&self.area[0..self.end], name, buffer)
+    }
+
+    fn drop(&mut self, name: Name) -> bool
+        ensures says { DropSays (pairs_of self.old) (pairs_of self.new) name.bytes result }
+        ensures rows { self.new.rows ≡ self.old.rows }
+        ensures lie { records_of self.new ≡ marked name.bytes (records_of self.old) }
+    {
+        self.end_pair(name)
+    }
+}
