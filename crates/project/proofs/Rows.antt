@@ -29,10 +29,6 @@ row_at p i u d h e =
     let l = rows-length p in
     get_or-take p.count (map member (vec_items p.table.rows)) i d h ∙ get_or-map member (vec_items p.table.rows) i u d (omega arith) ∙ ap member (sym e)
 
--- what `==` on names answers
-pub same_answer : (a b : Name) (r : Bool) → Decides r (a.bytes ≡ b.bytes) → same a b ≡ r
-same_answer a b r h = same_from_decides (same a b) r (bytes_eq-Decides a.bytes b.bytes) h
-
 -- one step of the search for the first element that passes
 pub first_case : {X : Type 0} (p : ℕ → X → Bool) (x : X) (xs : List X) (r : Option ℕ) → first p (x ∷ xs) ≡ r → ((p 0 x ≡ true) × (r ≡ Some 0)) ⊎ ((p 0 x ≡ false) × (r ≡ option_map suc (first (λ i. p (suc i)) xs)))
 first_case p x xs r h = by (p 0 x) refl

@@ -4,7 +4,7 @@ use Rattle.std.specs.List.{slice_get}
 use Rattle.names.specs.declared.name.Name.{Name}
 use Rattle.names.specs.declared.refusal.Refusal.{Refusal}
 use Rattle.names.specs.declared.refusal.Refusal.TheVariants.{NotAName, SourceTooLong, TooManyImports, TooManyUnits, NoSuchUnit, TooManyRows, ImportMissing, ImportCircle, Faulty, StoreFull, RecordTooLong, BufferTooShort, NotBuilt, ImageTooLong, EntryMissing, NotAnImage, NotAnArtifact}
-use Rattle.names.specs.Ordered.{by_name}
+use Rattle.names.specs.Ordered.{name_cmp}
 use Rattle.names.specs.Refusals.{number}
 use Rattle.order.specs.declared.Need.{Need}
 use Rattle.order.specs.declared.Ordered.{Ordered}
@@ -68,11 +68,11 @@ lack_at vs None = 0
 
 abbrev pub by_lack : List Member → Option ℕ → Verdict
 by_lack vs (Some i) = missing (slice_get (names vs) i) (lack_at vs (slice_get vs i))
-by_lack vs None = by_order vs (ordered by_name.cmp (names vs) (needs 0 vs))
+by_lack vs None = by_order vs (ordered name_cmp (names vs) (needs 0 vs))
 
 -- 21 goes before 22
 abbrev pub checked : List Member → Verdict
-checked vs = by_lack vs (smallest by_name.cmp (lacks vs vs) (names vs))
+checked vs = by_lack vs (smallest name_cmp (lacks vs vs) (names vs))
 
 -- the number of a verdict: 0 for a link order
 abbrev pub verdict_number : Verdict → ℕ

@@ -1,7 +1,7 @@
 // The check of a project: its link order, or why it has none.
 ghost use Rattle.std.specs.Prelude.{◌≡◌, ℕ, ◌+◌, ◌*◌, ◌<◌, ◌≤◌, not, [], ◌∷◌, ◌++◌, map, length, IfOk, Some};
 ghost use Rattle.std.specs.List.{slice_get};
-ghost use Rattle.names.specs.Ordered.{by_name};
+ghost use Rattle.names.specs.Ordered.{name_cmp};
 ghost use Rattle.bounded.specs.Held.{held};
 ghost use Rattle.names.specs.Refusals.{answer};
 ghost use Rattle.std.specs.Option.{option_map};
@@ -140,7 +140,7 @@ impl Links {
 
     // The smallest unit that lacks an import.
     fn lacking(&mut self, project: &Project) -> Option<usize>
-        ensures value { result ≡ smallest by_name.cmp (lacks (members project.now) (members project.now)) (names_of (members project.now)) }
+        ensures value { result ≡ smallest name_cmp (lacks (members project.now) (members project.now)) (names_of (members project.now)) }
         ensures names { held self.new.names ≡ names_of (members project.now) }
     {
         list_names(&mut self.names, project);
@@ -151,7 +151,7 @@ impl Links {
     // Orders the units, whose names are listed.
     fn arrange(&mut self, project: &Project) -> Ordered
         requires { held self.old.names ≡ names_of (members project.now) }
-        ensures { Arranged (members project.now) self.new.places result (ordered by_name.cmp (names_of (members project.now)) (needs_of 0 (members project.now))) }
+        ensures { Arranged (members project.now) self.new.places result (ordered name_cmp (names_of (members project.now)) (needs_of 0 (members project.now))) }
     {
         list_needs(&mut self.needs, project);
         order::order(

@@ -39,7 +39,9 @@ fn put(rt: &HostRuntime, project: &mut Project, line: &str, source: &[u8]) -> Re
 fn order(rt: &HostRuntime, lines: &str) -> Result<String, Fail> {
     let mut project = Project::open(rt.alloc())?;
     for line in lines.lines() {
-        assert_eq!(put(rt, &mut project, line, b"")?, 0);
+        if put(rt, &mut project, line, b"")? != 0 {
+            return Err(Fail::new("a unit was refused"));
+        }
     }
     linked(rt, &project)
 }

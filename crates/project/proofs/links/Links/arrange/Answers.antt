@@ -3,7 +3,7 @@ use Rattle.std.proofs.lemmas.List.{length-map, take_at}
 use Rattle.std.proofs.lemmas.Bool.{le-ltb}
 use Rattle.bounded.specs.Held.{held}
 use Rattle.names.specs.declared.name.Name.{Name}
-use Rattle.names.specs.Ordered.{by_name}
+use Rattle.names.specs.Ordered.{by_name, name_cmp}
 use Rattle.order.specs.declared.Need.{Need}
 use Rattle.order.specs.declared.Ordered.{Ordered}
 use Rattle.order.specs.declared.Ordered.TheVariants.{All, Stuck, Short}
@@ -17,7 +17,7 @@ use Rattle.project.proofs.Rows.{members-length}
 use Rattle.project.proofs.links.Links.arrange.Goals as goal
 
 -- what the order leaves in the places, where there are enough
-arranged : (vs : List Member) (before after : List ℕ) (r : Ordered) (out : Outcome) → Tells by_name.cmp (names vs) (needs 0 vs) before after r out → Lawful by_name.cmp (names vs) (needs 0 vs) out → Arranged vs after r out
+arranged : (vs : List Member) (before after : List ℕ) (r : Ordered) (out : Outcome) → Tells name_cmp (names vs) (needs 0 vs) before after r out → Lawful name_cmp (names vs) (needs 0 vs) out → Arranged vs after r out
 arranged vs before after r (all done) t l =
     let n : length (names vs) ≡ length vs = length-map vs (λ (v : Member). v.name) in
     let all_of = once-length by_name (names vs) (needs 0 vs) done l.0.0 in
@@ -27,11 +27,11 @@ arranged vs before after r (stuck done i) t l =
     let p = smallest_passes by_name (λ k. not (placed done k)) (names vs) i l.2 in
     (t.0, omega arith)
 
-told : (vs : List Member) (keys : List Name) (ns : List (Need Name)) (before after : List ℕ) (r : Ordered) → keys ≡ names vs → ns ≡ needs 0 vs → length vs ≤ length before → Answers by_name.cmp keys ns before after r → Tells by_name.cmp (names vs) (needs 0 vs) before after r (ordered by_name.cmp (names vs) (needs 0 vs))
+told : (vs : List Member) (keys : List Name) (ns : List (Need Name)) (before after : List ℕ) (r : Ordered) → keys ≡ names vs → ns ≡ needs 0 vs → length vs ≤ length before → Answers name_cmp keys ns before after r → Tells name_cmp (names vs) (needs 0 vs) before after r (ordered name_cmp (names vs) (needs 0 vs))
 told vs keys ns before after r e f h a =
     let n : length (names vs) ≡ length vs = length-map vs (λ (v : Member). v.name) in
-    let as-listed : Answers by_name.cmp (names vs) (needs 0 vs) before after r = subst (λ ms. Answers by_name.cmp (names vs) ms before after r) f (subst (λ ks. Answers by_name.cmp ks ns before after r) e a) in
-    subst (λ b. cond b ((r ≡ Short) × (after ≡ before)) (Tells by_name.cmp (names vs) (needs 0 vs) before after r (ordered by_name.cmp (names vs) (needs 0 vs)))) (le-ltb (length before) (length (names vs)) (omega arith)) as-listed
+    let as-listed : Answers name_cmp (names vs) (needs 0 vs) before after r = subst (λ ms. Answers name_cmp (names vs) ms before after r) f (subst (λ ks. Answers name_cmp ks ns before after r) e a) in
+    subst (λ b. cond b ((r ≡ Short) × (after ≡ before)) (Tells name_cmp (names vs) (needs 0 vs) before after r (ordered name_cmp (names vs) (needs 0 vs)))) (le-ltb (length before) (length (names vs)) (omega arith)) as-listed
 
 pub returns : goal.returns
 returns c =
@@ -40,6 +40,6 @@ returns c =
     let all_of = members-length p in
     let few = p.few in
     let enough : length vs ≤ length c.args.self.now.places = let wide = c.args.self.now.wide in omega arith in
-    arranged vs c.args.self.now.places c.order.new.places c.order.result (ordered by_name.cmp (names vs) (needs 0 vs))
-    (told vs c.as_slice.result.now c.as_slice-2.result.now c.args.self.now.places c.order.new.places c.order.result (c.as_slice.ensures ∙ c.requires) (c.as_slice-2.ensures ∙ c.list_needs.ensures) enough (c.order.ensures.answers by_name))
+    arranged vs c.args.self.now.places c.order.new.places c.order.result (ordered name_cmp (names vs) (needs 0 vs))
+    (told vs c.as_slice.result.now c.as_slice-2.result.now c.args.self.now.places c.order.new.places c.order.result (c.as_slice.ensures ∙ c.requires) (c.as_slice-2.ensures ∙ c.list_needs.ensures) enough c.order.ensures.answers)
     (lawful by_name (names vs) (needs 0 vs))

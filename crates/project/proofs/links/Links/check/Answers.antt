@@ -2,7 +2,7 @@ use Rattle.std.proofs.Common.{◌≡◌, ℕ, ◌<◌, List, length, take, Some,
 use Rattle.std.specs.List.{slice_get}
 use Rattle.std.proofs.lemmas.List.{length-map}
 use Rattle.names.specs.declared.name.Name.{Name}
-use Rattle.names.specs.Ordered.{by_name}
+use Rattle.names.specs.Ordered.{by_name, name_cmp}
 use Rattle.order.specs.declared.Ordered.{Ordered}
 use Rattle.order.specs.declared.Ordered.TheVariants.{All, Stuck, Short}
 use Rattle.order.specs.Dependency.{Outcome, all, stuck, smallest, ordered}
@@ -13,18 +13,18 @@ use Rattle.project.proofs.Rows.{members-length}
 use Rattle.project.proofs.links.Links.check.Goals as goal
 
 -- a unit told to lack an import
-lacks-one : (vs : List Member) (i : ℕ) (u : Name) (k : ℕ) → Some i ≡ smallest by_name.cmp (lacks vs vs) (names vs) → slice_get (names vs) i ≡ Some u → k ≡ lack_at vs (slice_get vs i) → missing (Some u) k ≡ checked vs
+lacks-one : (vs : List Member) (i : ℕ) (u : Name) (k : ℕ) → Some i ≡ smallest name_cmp (lacks vs vs) (names vs) → slice_get (names vs) i ≡ Some u → k ≡ lack_at vs (slice_get vs i) → missing (Some u) k ≡ checked vs
 lacks-one vs i u k e n p = (λ j. missing (sym n j) (p j)) ∙ ap (by_lack vs) e
 
-lacks_below : (vs : List Member) (i : ℕ) → Some i ≡ smallest by_name.cmp (lacks vs vs) (names vs) → i < length vs
+lacks_below : (vs : List Member) (i : ℕ) → Some i ≡ smallest name_cmp (lacks vs vs) (names vs) → i < length vs
 lacks_below vs i e =
     let n : length (names vs) ≡ length vs = length-map vs (λ (v : Member). v.name) in
     let p = smallest_passes by_name (lacks vs vs) (names vs) i (sym e) in
     omega arith
 
 -- where no unit lacks one, the order decides
-module _ (vs : List Member) (none : None ≡ smallest by_name.cmp (lacks vs vs) (names vs)) where
-  by_arranged : by_order vs (ordered by_name.cmp (names vs) (needs 0 vs)) ≡ checked vs
+module _ (vs : List Member) (none : None ≡ smallest name_cmp (lacks vs vs) (names vs)) where
+  by_arranged : by_order vs (ordered name_cmp (names vs) (needs 0 vs)) ≡ checked vs
   by_arranged = ap (by_lack vs) none
 
   in_circle : (out : Outcome) (places : List ℕ) (i : ℕ) → Arranged vs places (Stuck i) out → (i < length vs) × (by_order vs out ≡ circle (slice_get (names vs) i))
@@ -48,7 +48,7 @@ lack_position-requires c = let b = lacks_below (members c.args.project.now) c.in
 pub name_at-requires : goal.name_at-requires
 name_at-requires c =
     let vs = members c.args.project.now in
-    let b = (in_circle vs c.in_default.ensures.value (ordered by_name.cmp (names vs) (needs 0 vs)) c.arrange.new.self.places c.in-Stuck.i c.in-Stuck.ensures).0 in
+    let b = (in_circle vs c.in_default.ensures.value (ordered name_cmp (names vs) (needs 0 vs)) c.arrange.new.self.places c.in-Stuck.i c.in-Stuck.ensures).0 in
     let n = members-length c.args.project.now in
     omega arith
 
@@ -63,7 +63,7 @@ returns-in-Stuck c =
     let none = c.in_default.ensures.value in
     let says : circle (Some c.name_at.result) ≡ checked vs =
     ap circle (sym c.name_at.ensures)
-    ∙ sym (in_circle vs none (ordered by_name.cmp (names vs) (needs 0 vs)) c.arrange.new.self.places c.in-Stuck.i c.in-Stuck.ensures).1
+    ∙ sym (in_circle vs none (ordered name_cmp (names vs) (needs 0 vs)) c.arrange.new.self.places c.in-Stuck.i c.in-Stuck.ensures).1
     ∙ by_arranged vs none in
     record { number = ap verdict_number says; says = says }
 
@@ -72,6 +72,6 @@ returns-in_default-arrange c =
     let vs = members c.args.project.now in
     let none = c.in_default.ensures.value in
     let says : linked (take c.args.project.now.count c.arrange.new.self.places) ≡ checked vs =
-    in_order vs none (ordered by_name.cmp (names vs) (needs 0 vs)) c.arrange.new.self.places c.arrange.result c.args.project.now.count (sym (members-length c.args.project.now)) c.in_default-arrange.not-Stuck c.arrange.ensures
+    in_order vs none (ordered name_cmp (names vs) (needs 0 vs)) c.arrange.new.self.places c.arrange.result c.args.project.now.count (sym (members-length c.args.project.now)) c.in_default-arrange.not-Stuck c.arrange.ensures
     ∙ by_arranged vs none in
     record { number = ap verdict_number says; says = says }
