@@ -1,14 +1,14 @@
 -- Artifacts read back to exactly what was written, and are written again exactly as they were read.
-use Rattle.std.proofs.Common.{◌≡◌, ℕ, zero, suc, ◌+◌, ◌*◌, ◌<◌, ◌≤◌, Bool, true, false, cond, eqb, ltb, leb, List, [], ◌∷◌, ◌++◌, length, Some, None, Decides, Option, sym, refl, ap, ◌∙◌, subst, append-nil, arith}
+use Rattle.std.proofs.Common.{◌≡◌, ℕ, ◌<◌, ◌≤◌, Bool, true, ltb, leb, List, [], ◌∷◌, ◌++◌, length, Some, Option, refl, ap, ◌∙◌, subst, arith}
 use Rattle.std.specs.List.{AllByRecursion as All}
 use Rattle.std.proofs.ByRecursion.{All-weaker}
-use Rattle.std.proofs.lemmas.Bool.{lt-ltb, ltb-true, le-leb, leb-true, eqb-true, and_parts}
+use Rattle.std.proofs.lemmas.Bool.{lt-ltb, ltb-true, le-leb, leb-true, and_parts}
 use Rattle.product.specs.Parts.{Parts, SoundRow, WithinRows, SoundReference, Within}
 use Rattle.product.specs.declared.row.Row.{Row}
 use Rattle.product.specs.declared.row.Reference.{Reference}
-use Rattle.codec.specs.Format.{Format, next, every, listed, tested, byte, pair, row, reference, interface, code, whole}
+use Rattle.codec.specs.Format.{next, every, listed, byte, pair, row, reference, interface, code}
 use Rattle.codec.proofs.Laws.{Lawful, seq_back, last_back, seq_only, glue, some_first, some_rest, byte_lawful, pair_lawful, row_lawful, SmallReference, reference_lawful, listed_lawful, tested_lawful, lawful_as}
-use Rattle.artifact.specs.Art.{Art, WithinArt, source, imports, entries, references, product, artifact, artifact_bytes, read}
+use Rattle.artifact.specs.Art.{Art, WithinArt, source, imports, entries, references, product, artifact}
 
 -- a test of each element, as a fact of each
 module _ {X : Type 0} (t : X → Bool) (P : X → Type 0) (yes : (x : X) → P x → t x ≡ true) (fact : (x : X) → t x ≡ true → P x) where

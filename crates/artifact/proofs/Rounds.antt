@@ -1,5 +1,5 @@
 -- The theorem of the round trip.
-use Rattle.artifact.specs.Art.{Art, WithinArt, artifact, artifact_bytes}
+use Rattle.artifact.specs.Art.{WithinArt, artifact}
 use Rattle.artifact.specs.Round.{RoundTrip}
 use Rattle.codec.proofs.Laws.{whole_back, whole_only, one_writing}
 use Rattle.artifact.proofs.Laws.{artifact_lawful}

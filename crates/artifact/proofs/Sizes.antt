@@ -1,16 +1,15 @@
 -- How long an artifact is.
-use Rattle.std.proofs.Common.{◌≡◌, ℕ, zero, suc, ◌+◌, ◌*◌, ◌<◌, ◌≤◌, true, List, [], ◌∷◌, ◌++◌, length, replicate, pos, sym, refl, ap, ◌∙◌, suc-mul, zero-mul, arith, lit<, length-append}
+use Rattle.std.proofs.Common.{◌≡◌, ℕ, zero, suc, ◌+◌, ◌*◌, ◌<◌, ◌≤◌, List, [], ◌∷◌, ◌++◌, length, replicate, pos, sym, refl, ap, ◌∙◌, suc-mul, zero-mul, arith, lit<, length-append}
 use lib.ListN.{length-replicate}
 use mir.Facts.{sfits_lit}
 use Rattle.std.specs.List.{AllByRecursion as All}
 use Rattle.std.proofs.ByRecursion.{All-weaker}
-use Rattle.names.specs.declared.name.Name.{Name}
-use Rattle.product.specs.Parts.{Parts, SoundRow, WithinRows, SoundReference, Within}
+use Rattle.product.specs.Parts.{SoundRow, WithinRows, SoundReference}
 use Rattle.product.specs.declared.row.Row.{Row}
 use Rattle.product.specs.declared.row.Reference.{Reference}
 use Rattle.codec.specs.Format.{each, byte, pair, reference, interface, code}
 use Rattle.codec.proofs.Lengths.{each-length, each_at_most, bytes_length, rows-length, code-length}
-use Rattle.artifact.specs.Art.{Art, WithinArt, source, imports, entries, references, product, artifact_bytes}
+use Rattle.artifact.specs.Art.{Art, WithinArt, source, imports, entries, references, artifact_bytes}
 
 -- an artifact whose lists are within their limits, whatever stands in them
 pub record Short (a : Art) : Type 0 where

@@ -1,5 +1,5 @@
 -- Artifacts as parts, and their one writing.
-use Rattle.std.specs.Prelude.{ℕ, ◌<◌, ◌≤◌, Bool, cond, List, [], ◌∷◌, ◌++◌, map, length, take, Some, None, vec_items, Option, nat_le, nat_lt}
+use Rattle.std.specs.Prelude.{ℕ, ◌<◌, ◌≤◌, List, [], ◌∷◌, ◌++◌, map, length, take, Some, None, vec_items, Option, nat_le, nat_lt}
 use Rattle.std.specs.List.{AllByRecursion as All}
 use Rattle.bounded.specs.Held.{held}
 use Rattle.product.specs.Parts.{Parts, parts, no_parts, rows, Within, WithinRows}

@@ -1,5 +1,5 @@
 -- What holds of every artifact and every list of bytes.
-use Rattle.std.specs.Prelude.{◌≡◌, ℕ, ◌≤◌, List, length, Some, None, Option}
+use Rattle.std.specs.Prelude.{◌≡◌, ℕ, ◌≤◌, List, length, Some}
 use Rattle.artifact.specs.Art.{Art, WithinArt, artifact_bytes, read}
 
 -- reading what was written gives the parts, writing what was read gives the bytes, so that each artifact has one writing; none is longer than 1,896 bytes, and one is as long

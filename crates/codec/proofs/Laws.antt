@@ -1,14 +1,14 @@
 -- Formats that read back to exactly what was written, and write again exactly what was read.
-use Rattle.std.proofs.Common.{◌≡◌, ℕ, zero, suc, ◌+◌, ◌-◌, ◌*◌, ◌/◌, ◌%◌, ◌^◌, ◌<◌, ◌≤◌, Bool, true, false, cond, eqb, ltb, leb, List, [], ◌∷◌, ◌++◌, length, take, drop, ℤ, Some, None, Option, sym, refl, ap, ◌∙◌, subst, append_assoc, append-nil, arith, take-append-drop, w32, Fits, SFits, to_z, of_z}
+use Rattle.std.proofs.Common.{◌≡◌, ℕ, zero, suc, ◌+◌, ◌*◌, ◌/◌, ◌%◌, ◌^◌, ◌<◌, ◌≤◌, Bool, true, false, cond, eqb, ltb, leb, List, [], ◌∷◌, ◌++◌, length, take, drop, ℤ, Some, None, Option, sym, refl, ap, ◌∙◌, subst, append_assoc, append-nil, arith, take-append-drop, w32, SFits, to_z, of_z}
 use mir.Facts.{sfits_to_z, Fits-of_z}
 use Rattle.std.specs.List.{AllByRecursion as All}
-use Rattle.std.proofs.lemmas.Bool.{lt-ltb, ltb-true, le-leb, leb-true, lt-leb, leb-false, eqb-true, true≢false}
+use Rattle.std.proofs.lemmas.Bool.{lt-ltb, ltb-true, le-leb, leb-true, eqb-true}
 use Rattle.std.proofs.lemmas.List.{take_at, drop_at}
 use Rattle.std.proofs.lemmas.Int.{to_z-of_z, of_z-to_z}
 use Rattle.names.specs.Spelling.{padded_name}
 use Rattle.names.specs.declared.name.Name.{Name}
 use Rattle.names.proofs.Spelled.{padded_eight}
-use Rattle.product.specs.Parts.{SoundRow, WithinRows}
+use Rattle.product.specs.Parts.{SoundRow}
 use Rattle.product.specs.declared.row.Row.{Row}
 use Rattle.product.specs.declared.row.Reference.{Reference}
 use Rattle.codec.specs.Format.{Format, next, passing, get_byte, byte, pair, value, name_of, name, row, reference, many, many_within, each, listed, tested, whole}

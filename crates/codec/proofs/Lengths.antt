@@ -1,8 +1,8 @@
 -- How many bytes elements and sections have.
-use Rattle.std.proofs.Common.{◌≡◌, ℕ, zero, suc, ◌+◌, ◌*◌, ◌≤◌, List, [], ◌∷◌, ◌++◌, length, sym, refl, ap, ◌∙◌, mul-le-mul_right, suc-mul, zero-mul, arith, length-append}
+use Rattle.std.proofs.Common.{◌≡◌, ℕ, suc, ◌+◌, ◌*◌, ◌≤◌, List, [], ◌∷◌, length, sym, refl, ap, ◌∙◌, suc-mul, zero-mul, arith, length-append}
 use Rattle.std.specs.List.{AllByRecursion as All}
 use Rattle.product.specs.declared.row.Row.{Row}
-use Rattle.codec.specs.Format.{Format, each, byte, pair, row, reference, interface, code, listed}
+use Rattle.codec.specs.Format.{each, byte, row, interface, code}
 use Rattle.codec.proofs.Laws.{name-length}
 
 pub each-length : {X : Type 0} (put : X → List ℕ) (w : ℕ) → ((x : X) → length (put x) ≡ w) → (xs : List X) → length (each put xs) ≡ length xs * w

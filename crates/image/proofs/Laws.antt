@@ -3,7 +3,7 @@ use Rattle.std.proofs.Common.{◌≡◌, ℕ, zero, suc, ◌+◌, ◌*◌, ◌<�
 use Rattle.std.specs.List.{AllByRecursion as All}
 use Rattle.std.proofs.lemmas.Bool.{eq-eqb, ne_eqb, eqb-true}
 use Rattle.names.specs.declared.name.Name.{Name}
-use Rattle.codec.specs.Format.{Format, next, begins, each, many, listed, byte, pair, name, code}
+use Rattle.codec.specs.Format.{Format, next, begins, each, many, byte, pair, name, code}
 use Rattle.codec.proofs.Laws.{Lawful, next_some, seq_back, last_back, seq_only, glue, some_first, some_rest, byte_lawful, pair_lawful, name_lawful, many_back, many_only, listed_lawful, tested_lawful, lawful_as}
 use Rattle.image.specs.Dealt.{flat, deal, run, undeal, dealt}
 use Rattle.image.specs.Picture.{Units, target, SmallTarget, exactly, names, sections, valid, image, WithinUnits}

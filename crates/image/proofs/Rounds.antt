@@ -1,7 +1,7 @@
 -- The theorem of the round trip.
-use Rattle.std.proofs.Common.{◌≡◌, ℕ, zero, suc, ◌+◌, ◌*◌, ◌<◌, ◌≤◌, List, [], ◌∷◌, ◌++◌, map, length, drop, sym, refl, ap, ◌∙◌, suc-mul, zero-mul, arith, length-append}
+use Rattle.std.proofs.Common.{◌≡◌, ℕ, suc, ◌+◌, ◌*◌, ◌<◌, ◌≤◌, List, [], ◌∷◌, ◌++◌, map, length, drop, refl, ap, ◌∙◌, suc-mul, zero-mul, arith, length-append}
 use Rattle.std.specs.List.{AllByRecursion as All}
-use Rattle.codec.specs.Format.{each, byte, pair, name, code}
+use Rattle.codec.specs.Format.{each, pair, name, code}
 use Rattle.codec.proofs.Laws.{whole_back, whole_only, one_writing, name-length}
 use Rattle.codec.proofs.Lengths.{each-length, code-length}
 use Rattle.image.specs.Dealt.{flat, deal, dealt}
@@ -81,8 +81,8 @@ round_trip =
       one_writing = one_writing image WithinUnits image_lawful;
       one_by_one = λ us vs h k e. let s : gathered us ≡ gathered vs = one_writing image WithinUnits image_lawful (gathered us) (gathered vs) h k e in same_units us vs (ap (λ u. u.names) s) (ap (λ u. u.codes) s) (ap (λ u. u.entries) s) (ap (λ u. u.references) s);
       longest = longest;
-      two-written = refl;
-      two-read = refl;
+      two_written = refl;
+      two_read = refl;
       none_written = refl;
       none_read = refl;
     }

@@ -1,5 +1,5 @@
 -- Rows of several units in one section, each behind the position of its unit.
-use Rattle.std.specs.Prelude.{ℕ, zero, suc, Bool, true, false, cond, List, [], ◌∷◌, ◌++◌, map, length, take, Some, None, vec_items, Option, ◌==◌}
+use Rattle.std.specs.Prelude.{ℕ, zero, suc, cond, List, [], ◌∷◌, ◌++◌, map, length, take, Some, None, vec_items, Option, ◌==◌}
 use Rattle.bounded.specs.Held.{held}
 use Rattle.codec.specs.Format.{Format, next, each, pair}
 use Rattle.image.specs.declared.column.Column.{Column}

@@ -1,5 +1,5 @@
 -- What holds of every image and every list of bytes.
-use Rattle.std.specs.Prelude.{◌≡◌, ℕ, ◌≤◌, List, [], ◌∷◌, map, length, take, Some, None, Ok, Err, Option, Result, refl}
+use Rattle.std.specs.Prelude.{◌≡◌, ℕ, ◌≤◌, List, [], ◌∷◌, map, length, take, Some, Ok, Err, Result, refl}
 use Rattle.names.specs.declared.name.Name.{Name}
 use Rattle.image.specs.Picture.{Units, no_units, WithinUnits, image_bytes, read}
 use Rattle.image.specs.declared.target.Target.{Target}
@@ -43,7 +43,7 @@ pub record RoundTrip : Type 0 where
   pub one_writing : (u v : Units) → WithinUnits u → WithinUnits v → image_bytes u ≡ image_bytes v → u ≡ v
   pub one_by_one : (us vs : List Linked) → WithinUnits (gathered us) → WithinUnits (gathered vs) → image_bytes (gathered us) ≡ image_bytes (gathered vs) → us ≡ vs
   pub longest : (u : Units) → WithinUnits u → length (image_bytes u) ≤ 12630
-  pub two-written : image_bytes two_units ≡ two_bytes
-  pub two-read : read two_bytes ≡ Some two_units
+  pub two_written : image_bytes two_units ≡ two_bytes
+  pub two_read : read two_bytes ≡ Some two_units
   pub none_written : image_bytes no_units ≡ 0 ∷ 0 ∷ 0 ∷ 0 ∷ 0 ∷ 0 ∷ []
   pub none_read : read (0 ∷ 0 ∷ 0 ∷ 0 ∷ 0 ∷ 0 ∷ []) ≡ Some no_units

@@ -1,7 +1,6 @@
 -- The house sameness is equality of names, kinds and values.
-use Rattle.std.proofs.Common.{◌≡◌, ℕ, ◌+◌, ◌<◌, ◌≤◌, Bool, true, false, ◌&&◌, eqb, List, [], ◌∷◌, map, length, get_or, drop, Decides, sym, refl, ap, ◌∙◌, subst, arith, w32, of_z}
+use Rattle.std.proofs.Common.{◌≡◌, ℕ, ◌+◌, ◌<◌, ◌≤◌, Bool, true, false, ◌&&◌, eqb, List, [], ◌∷◌, map, length, get_or, drop, sym, refl, ap, ◌∙◌, arith, w32, of_z}
 use Rattle.std.specs.Str.{bytes_eq}
-use Rattle.std.proofs.lemmas.Bool.Decides.{same_from_decides}
 use Rattle.std.proofs.lemmas.Slice.Eq.{bytes_eq-Decides}
 use Rattle.std.proofs.lemmas.List.{drop_more, drop_all}
 use Rattle.std.proofs.lemmas.Bool.{false≢true, and_parts, and_from, and_right, eqb-true, eq-eqb}
@@ -76,5 +75,5 @@ pub ends : (a b : List Row) (i : ℕ) → length a ≤ i → length b ≤ i → 
 ends a b i ha hb inv = sym (λ k. house (drop_all i a ha k) (drop_all i b hb k)) ∙ inv
 
 -- names, kinds and values compared one after the other
-pub compared : (a b : Row) (r : Bool) → Decides r (a.name.bytes ≡ b.name.bytes) → (r && (eqb a.kind b.kind && eqb (of_z w32 a.value) (of_z w32 b.value))) ≡ like a b
-compared a b r h = ap (λ t. t && (eqb a.kind b.kind && eqb (of_z w32 a.value) (of_z w32 b.value))) (same_from_decides r (bytes_eq a.name.bytes b.name.bytes) h (bytes_eq-Decides a.name.bytes b.name.bytes))
+pub compared : (a b : Row) (r : Bool) → r ≡ bytes_eq a.name.bytes b.name.bytes → (r && (eqb a.kind b.kind && eqb (of_z w32 a.value) (of_z w32 b.value))) ≡ like a b
+compared a b r h = ap (λ t. t && (eqb a.kind b.kind && eqb (of_z w32 a.value) (of_z w32 b.value))) h

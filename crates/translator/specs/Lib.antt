@@ -1,4 +1,4 @@
 pub mod Owed
 pub mod House
 pub mod Echoed
-pub mod EchoTranslatorLemmas
+pub mod EchoLaws

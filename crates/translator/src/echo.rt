@@ -1,10 +1,8 @@
 // Echo, a translator to try things with: what it gives is easy to foresee.
-ghost use Rattle.std.specs.Prelude.{◌≡◌, ◌+◌, ◌%◌, ◌^◌, ◌&&◌, leb, map, length, if◌then◌else◌, nat_le};
-ghost use Rattle.std.proofs.Common.{subst, rules};
-ghost use Rattle.product.specs.Parts.{rows, parts, made, faulted};
-ghost use Rattle.translator.specs.Owed.{shown, Agree, admitted};
+ghost use Rattle.std.specs.Prelude.{◌≡◌};
+ghost use Rattle.product.specs.Parts.{parts};
 ghost use Rattle.translator.specs.Echoed.{echo, echoed, any, d_row};
-ghost use Rattle.translator.specs.EchoTranslatorLemmas.{lengths, agree_itself, kept_by};
+ghost use Rattle.translator.specs.EchoLaws.{any_itself, any_turned, any_chained, echo_agrees, echo_bounded};
 
 use crate::contract::Translator;
 use crate::limits::admits;
@@ -59,15 +57,15 @@ impl Translator for Echo {
 
     ghost asked = { λ e. e.count };
 
-    ghost itself = { Prim.search rules };
+    ghost itself = { any_itself };
 
-    ghost turned = { Prim.search rules };
+    ghost turned = { any_turned };
 
-    ghost chained = { Prim.search rules };
+    ghost chained = { any_chained };
 
-    ghost agrees = { λ source a b h. subst (λ n. Agree any (echo source a) (if leb (length source) 512 && nat_le n 4 then made (echoed source) else faulted (record { code = 9; line = 0 }))) (lengths a b h) (agree_itself (echo source a)) };
+    ghost agrees = { echo_agrees };
 
-    ghost bounded = { λ source imports h. kept_by source (length imports) (admitted source imports) h.0 };
+    ghost bounded = { echo_bounded };
 
     fn translate(
         &mut self,

@@ -1,10 +1,9 @@
-use Rattle.std.proofs.Common.{◌≡◌, ℕ, ◌+◌, ◌-◌, ◌<◌, ◌≤◌, List, [], ◌∷◌, ◌++◌, length, take, Some, None, vec_items, Option, sym, refl, ap, ◌∙◌, subst, arith, MatchOption}
+use Rattle.std.proofs.Common.{◌≡◌, ℕ, ◌+◌, ◌-◌, ◌<◌, ◌≤◌, List, length, take, Some, None, vec_items, Option, sym, refl, ap, ◌∙◌, arith}
 use Rattle.std.proofs.lemmas.Option.{MatchOption-from_none}
-use Rattle.product.specs.Parts.{rows}
 use Rattle.product.specs.declared.row.Row.{Row}
 use Rattle.product.specs.declared.interface.Interface.{Interface}
 use Rattle.codec.specs.Format.{left, next, many, many_within, interface, get_byte}
-use Rattle.codec.proofs.Many.{onto, within_no, many_starts, many_goes, many_stops, many-ends}
+use Rattle.codec.proofs.Many.{onto, many_starts, many_goes, many_stops, many-ends}
 use Rattle.artifact.specs.Art.{imported, imports_read}
 use Rattle.artifact.proofs.Slots.{one_more}
 use Rattle.artifact.proofs.read.read_imports.Goals as goal

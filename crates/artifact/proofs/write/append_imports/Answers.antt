@@ -1,4 +1,4 @@
-use Rattle.std.proofs.Common.{◌≡◌, ℕ, ◌+◌, List, [], ◌∷◌, ◌++◌, length, get_or, take, sym, refl, ap, ◌∙◌, lit<}
+use Rattle.std.proofs.Common.{ℕ, ◌+◌, List, ◌++◌, take, ap, ◌∙◌, lit<}
 use Rattle.std.proofs.lemmas.List.{take_all}
 use Rattle.bounded.specs.Held.{held}
 use Rattle.product.specs.Parts.{rows}

@@ -1,6 +1,6 @@
 use Rattle.std.proofs.Common.{◌++◌, lit<}
 use Rattle.bounded.specs.Held.{held}
-use Rattle.product.specs.Parts.{rows, parts}
+use Rattle.product.specs.Parts.{parts}
 use Rattle.codec.specs.Format.{listed, byte, pair, reference, interface, code}
 use Rattle.codec.proofs.Added.{adds_both}
 use Rattle.artifact.proofs.write.append_product.Goals as goal

@@ -1,7 +1,6 @@
-use Rattle.std.proofs.Common.{◌≡◌, ℕ, ◌/◌, ◌%◌, List, ap, w32, of_z, rules}
+use Rattle.std.proofs.Common.{◌≡◌, ◌/◌, ◌%◌, ap, w32, of_z, rules}
 use Rattle.std.proofs.lemmas.Int.{to_z-of_z}
 use Rattle.bounded.specs.Held.{held}
-use Rattle.codec.specs.Adding.{Adds}
 use Rattle.codec.specs.Format.{pair}
 use Rattle.codec.proofs.Added.{adds_both, adds_as}
 use Rattle.codec.proofs.output.put_value.Goals as goal

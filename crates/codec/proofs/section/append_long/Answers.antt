@@ -1,4 +1,4 @@
-use Rattle.std.proofs.Common.{◌≡◌, ℕ, ◌%◌, ◌<◌, ◌≤◌, List, ◌++◌, length, sym, refl, ap, ◌∙◌, arith}
+use Rattle.std.proofs.Common.{◌≡◌, ℕ, ◌%◌, ◌<◌, ◌≤◌, length, ap, arith}
 use Rattle.bounded.specs.Held.{held}
 use Rattle.bounded.proofs.Few.{held_few}
 use Rattle.codec.specs.Format.{each, pair}

@@ -1,8 +1,8 @@
-use Rattle.std.proofs.Common.{◌≡◌, ℕ, ◌+◌, ◌-◌, ◌<◌, ◌≤◌, true, false, ltb, List, [], ◌∷◌, ◌++◌, length, Some, None, Option, sym, refl, ap, ◌∙◌, subst, arith, length-append}
+use Rattle.std.proofs.Common.{◌≡◌, ℕ, ◌+◌, ◌-◌, ◌≤◌, List, [], ◌∷◌, ◌++◌, length, sym, ap, ◌∙◌, arith, length-append}
 use Rattle.std.proofs.lemmas.Bool.{ltb-false}
 use Rattle.bounded.specs.Held.{held}
 use Rattle.codec.specs.Format.{left, filled, many}
-use Rattle.codec.proofs.Many.{onto, within_no, many_starts, many_goes, many_stops, many-ends}
+use Rattle.codec.proofs.Many.{onto, many_starts, many_goes, many_stops, many-ends}
 use Rattle.codec.proofs.section.read_list.Goals as goal
 
 one_more : {X : Type 0} (xs ys : List X) (x : X) (i : ℕ) → ys ≡ xs ++ x ∷ [] → length xs ≡ i → length ys ≡ i + 1

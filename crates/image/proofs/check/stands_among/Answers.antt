@@ -1,18 +1,16 @@
-use Rattle.std.proofs.Common.{◌≡◌, ℕ, ◌+◌, ◌<◌, Bool, true, false, ◌||◌, List, ◌∷◌, length, get_or, drop, Decides, sym, refl, ap, ◌∙◌}
+use Rattle.std.proofs.Common.{◌≡◌, ℕ, ◌+◌, ◌<◌, Bool, true, false, ◌||◌, List, ◌∷◌, length, get_or, drop, sym, ap, ◌∙◌}
 use Rattle.std.specs.Str.{bytes_eq}
-use Rattle.std.proofs.lemmas.Slice.Eq.{bytes_eq-Decides}
 use Rattle.std.proofs.lemmas.List.{at_drop_more, at_drop_all}
-use Rattle.std.proofs.lemmas.Bool.Decides.{same_from_decides}
 use Rattle.names.specs.declared.name.Name.{Name}
 use Rattle.image.specs.Picture.{among}
 use Rattle.image.proofs.check.stands_among.Goals as goal
 
 -- the turn at place i, where the name x stands, and t says whether it is the one
 module _ (n : Name) (xs : List Name) (i : ℕ) (x : Name) (t : Bool) (h : i < length xs) (at : x ≡ get_or xs i x)
-    (inv : among n (drop i xs) ≡ among n xs) (decides : Decides t (x.bytes ≡ n.bytes)) where
+    (inv : among n (drop i xs) ≡ among n xs) (says : t ≡ bytes_eq x.bytes n.bytes) where
   turn : (t || among n (drop (i + 1) xs)) ≡ among n xs
   turn =
-      ap (λ b. b || among n (drop (i + 1) xs)) (same_from_decides t (bytes_eq x.bytes n.bytes) decides (bytes_eq-Decides x.bytes n.bytes))
+      ap (λ b. b || among n (drop (i + 1) xs)) says
       ∙ ap (λ y. among n (y ∷ drop (i + 1) xs)) at ∙ sym (at_drop_more (among n) xs i x h) ∙ inv
 
   goes : t ≡ false → among n (drop (i + 1) xs) ≡ among n xs

@@ -1,9 +1,9 @@
-use Rattle.std.proofs.Common.{◌≡◌, ℕ, ◌<◌, ◌≤◌, List, [], ◌∷◌, ◌++◌, length, sym, refl, ap, ◌∙◌, arith}
+use Rattle.std.proofs.Common.{length, sym, ap, ◌∙◌}
 use Rattle.std.proofs.lemmas.Bool.{ltb-false, ltb-true}
 use Rattle.bounded.specs.Held.{held}
 use Rattle.codec.specs.Format.{left}
 use Rattle.image.specs.Dealt.{run_read}
-use Rattle.image.proofs.Runs.{run_starts, run_goes, run_fails, run_passes, run_ends, run_stops}
+use Rattle.image.proofs.Runs.{run_starts, run_goes, run_fails, run_passes, run_stops}
 use Rattle.image.proofs.columns.read_run.Goals as goal
 
 pub loop-others-init : goal.loop-others-init

@@ -1,4 +1,4 @@
-use Rattle.std.proofs.Common.{◌≡◌, ◌+◌, [], ◌∷◌, ◌++◌, get_or, take, sym, ap, ◌∙◌}
+use Rattle.std.proofs.Common.{◌+◌, [], ◌∷◌, ◌++◌, get_or, take, sym}
 use Rattle.std.proofs.lemmas.List.{take_more, take_all}
 use Rattle.image.proofs.Lays.{lays_both, lays_none, lays_as}
 use Rattle.image.proofs.lay.put_all.Goals as goal

@@ -1,4 +1,4 @@
-use Rattle.std.proofs.Common.{[], ◌∷◌, ap}
+use Rattle.std.proofs.Common.{[], ◌∷◌}
 use Rattle.image.proofs.Lays.{lays_both, lays_as}
 use Rattle.image.proofs.lay.put_row.Goals as goal
 

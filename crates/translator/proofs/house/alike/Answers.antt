@@ -1,4 +1,4 @@
-use Rattle.std.proofs.Common.{◌≡◌, ◌&&◌, eqb, sym, ap, ◌∙◌, w32, of_z}
+use Rattle.std.proofs.Common.{◌&&◌, eqb, sym, ap, ◌∙◌, w32, of_z}
 use Rattle.std.proofs.lemmas.Bool.{ne_eqb, eq-eqb}
 use Rattle.translator.proofs.Alike.{compared}
 use Rattle.translator.proofs.house.alike.Goals as goal

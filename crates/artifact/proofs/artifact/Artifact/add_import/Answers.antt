@@ -1,10 +1,10 @@
-use Rattle.std.proofs.Common.{◌≡◌, ℕ, ◌+◌, ◌<◌, true, ltb, List, [], ◌∷◌, ◌++◌, length, take, set, vec_items, sym, ap, ◌∙◌, arith}
-use Rattle.std.proofs.lemmas.Bool.{lt-ltb, le-ltb}
+use Rattle.std.proofs.Common.{◌≡◌, ◌+◌, ◌<◌, true, ltb, List, [], ◌∷◌, ◌++◌, length, take, set, vec_items, sym, ap, ◌∙◌, arith}
+use Rattle.std.proofs.lemmas.Bool.{lt-ltb}
 use Rattle.product.specs.Parts.{rows, parts}
 use Rattle.product.specs.declared.row.Row.{Row}
 use Rattle.product.specs.declared.interface.Interface.{Interface}
 use Rattle.bounded.specs.Held.{held}
-use Rattle.artifact.specs.Art.{Art, imported}
+use Rattle.artifact.specs.Art.{imported}
 use Rattle.artifact.specs.declared.artifact.Artifact.{Artifact}
 use Rattle.artifact.proofs.Slots.{count_is, one_more}
 use Rattle.artifact.proofs.artifact.Artifact.add_import.Goals as goal

@@ -1,6 +1,6 @@
-use Rattle.std.proofs.Common.{◌≡◌, Some, None, Option, sym, ap, rules}
+use Rattle.std.proofs.Common.{◌≡◌, Some, sym, ap, rules}
 use Rattle.codec.specs.Format.{refusing}
-use Rattle.artifact.specs.Art.{Art, art, read}
+use Rattle.artifact.specs.Art.{art, read}
 use Rattle.artifact.proofs.Rounds.{round_trip}
 use Rattle.artifact.proofs.artifact.Artifact.read.Goals as goal
 

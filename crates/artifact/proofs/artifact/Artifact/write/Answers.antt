@@ -1,10 +1,10 @@
-use Rattle.std.proofs.Common.{◌≡◌, ℕ, ◌+◌, ◌≤◌, List, [], ◌∷◌, ◌++◌, map, length, take, vec_items, sym, refl, ap, ◌∙◌, arith, lit<, length-take}
+use Rattle.std.proofs.Common.{◌≡◌, ℕ, ◌≤◌, List, [], ◌∷◌, ◌++◌, length, take, vec_items, ap, ◌∙◌, arith, lit<, length-take}
 use lib.ListN.{length-map}
 use Rattle.std.specs.List.{AllByRecursion as All}
 use Rattle.std.proofs.ByRecursion.{All-map}
 use Rattle.bounded.specs.Held.{held}
 use Rattle.bounded.proofs.Few.{held_few}
-use Rattle.product.specs.Parts.{Parts, parts, rows}
+use Rattle.product.specs.Parts.{rows}
 use Rattle.product.specs.declared.row.Row.{Row}
 use Rattle.product.specs.declared.interface.Interface.{Interface}
 use Rattle.codec.specs.Adding.{Adds}

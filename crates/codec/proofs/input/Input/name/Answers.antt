@@ -1,4 +1,4 @@
-use Rattle.std.proofs.Common.{◌≡◌, length, take, drop, Some, None, Option, sym, refl, ap, ◌∙◌, arith, length-take}
+use Rattle.std.proofs.Common.{take, drop, Some, sym, refl, ap, ◌∙◌, arith, length-take}
 use Rattle.std.proofs.lemmas.List.{take_rest}
 use Rattle.names.specs.Spelling.{padded_name}
 use Rattle.names.proofs.Spelled.{padded_long}

@@ -1,7 +1,7 @@
-use Rattle.std.proofs.Common.{◌≡◌, ℕ, ◌+◌, ◌-◌, ◌<◌, List, [], map, length, take, Some, None, vec_items, Option, sym, refl, ap, ◌∙◌, arith}
+use Rattle.std.proofs.Common.{◌≡◌, ◌+◌, ◌-◌, ◌<◌, [], map, length, take, Some, vec_items, sym, ap, ◌∙◌, arith}
 use native.Mathlib.Nat.{sub-zero}
 use Rattle.bounded.specs.Held.{held}
-use Rattle.codec.specs.Format.{left, filled, many, listed, pair}
+use Rattle.codec.specs.Format.{left, many, listed, pair}
 use Rattle.codec.proofs.Many.{onto, onto_none, refused, many_goes, many_stops, many-ends}
 use Rattle.image.specs.Dealt.{lists}
 use Rattle.image.proofs.Placed.{one_more}

@@ -1,6 +1,6 @@
-use Rattle.std.proofs.Common.{◌≡◌, ℕ, ◌+◌, ◌-◌, ◌<◌, List, [], ◌∷◌, ◌++◌, map, length, take, set, Some, None, vec_items, vec_len, Option, sym, refl, ap, ◌∙◌, arith}
+use Rattle.std.proofs.Common.{◌≡◌, ◌+◌, ◌-◌, ◌<◌, map, length, take, Some, vec_items, sym, ap, ◌∙◌, arith}
 use Rattle.bounded.specs.Held.{held}
-use Rattle.codec.specs.Format.{left, filled}
+use Rattle.codec.specs.Format.{left}
 use Rattle.codec.proofs.Many.{onto, refused}
 use Rattle.image.specs.Dealt.{lists, undeal}
 use Rattle.image.proofs.Deals.{deal_starts, deal_goes, deal_fails, deal-ends, deal-left}

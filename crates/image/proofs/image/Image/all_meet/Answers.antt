@@ -1,4 +1,4 @@
-use Rattle.std.proofs.Common.{◌≡◌, ◌<◌, ◌≤◌, [], length, sym, refl, ap, ◌∙◌, arith}
+use Rattle.std.proofs.Common.{◌<◌, [], length, sym, refl, ap, ◌∙◌, arith}
 use Rattle.names.proofs.Loops.{every_goes, every_stops, test_ends}
 use Rattle.bounded.specs.Held.{held}
 use Rattle.codec.specs.Format.{every}

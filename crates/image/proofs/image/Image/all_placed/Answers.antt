@@ -1,9 +1,8 @@
-use Rattle.std.proofs.Common.{◌≡◌, ℕ, ◌+◌, ◌<◌, ◌≤◌, Bool, true, false, ◌&&◌, ltb, List, [], ◌∷◌, length, get_or, drop, sym, refl, ap, ◌∙◌, arith}
+use Rattle.std.proofs.Common.{◌≡◌, ℕ, ◌+◌, ◌<◌, Bool, true, false, ◌&&◌, ltb, List, [], ◌∷◌, length, get_or, drop, sym, ap, ◌∙◌, arith}
 use Rattle.std.proofs.lemmas.List.{at_drop_more, at_drop_all}
 use Rattle.bounded.specs.Held.{held}
 use Rattle.codec.specs.Format.{every}
 use Rattle.image.specs.Picture.{units, placed}
-use Rattle.image.specs.declared.image.Image.{Image}
 use Rattle.image.proofs.Placed.{column_length, few_units}
 use Rattle.image.proofs.image.Image.all_placed.Goals as goal
 

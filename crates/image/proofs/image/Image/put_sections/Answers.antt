@@ -1,8 +1,7 @@
-use Rattle.std.proofs.Common.{◌≡◌, ℕ, List, [], ◌∷◌, ◌++◌, length, sym, ap, ◌∙◌}
+use Rattle.std.proofs.Common.{◌≡◌, [], ◌∷◌, ◌++◌, length, sym, ap, ◌∙◌}
 use Rattle.bounded.specs.Held.{held}
 use Rattle.codec.specs.Format.{each, byte, pair, name, code}
 use Rattle.image.specs.Dealt.{lists, dealt}
-use Rattle.image.specs.Laid.{Lays}
 use Rattle.image.specs.Picture.{units, target}
 use Rattle.image.proofs.Lays.{lays_both, lays_as}
 use Rattle.image.proofs.Placed.{column_length, few_units}

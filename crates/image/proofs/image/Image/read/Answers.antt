@@ -1,4 +1,4 @@
-use Rattle.std.proofs.Common.{◌≡◌, Some, None, Option, sym, ap, rules}
+use Rattle.std.proofs.Common.{◌≡◌, Some, sym, ap, rules}
 use Rattle.codec.specs.Format.{refusing}
 use Rattle.image.specs.Picture.{units, read}
 use Rattle.image.proofs.Rounds.{round_trip}

@@ -1,4 +1,3 @@
-use Rattle.std.proofs.Common.{◌∙◌}
 use Rattle.codec.specs.Format.{left}
 use Rattle.codec.proofs.Many.{tested_yes, tested_no}
 use Rattle.image.specs.Picture.{units, sections, valid}

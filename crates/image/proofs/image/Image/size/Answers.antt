@@ -1,4 +1,4 @@
-use Rattle.std.proofs.Common.{◌≡◌, ℕ, ◌+◌, ◌*◌, List, length, sym, ap, ◌∙◌}
+use Rattle.std.proofs.Common.{◌≡◌, ℕ, ◌+◌, ◌*◌, length, sym, ap, ◌∙◌}
 use Rattle.bounded.specs.Held.{held}
 use Rattle.image.specs.Dealt.{lists, flat}
 use Rattle.image.specs.Picture.{units}

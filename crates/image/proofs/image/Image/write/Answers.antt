@@ -1,8 +1,8 @@
-use Rattle.std.proofs.Common.{◌≡◌, ℕ, ◌<◌, ◌≤◌, cond, leb, List, [], ◌∷◌, ◌++◌, length, take, drop, sym, refl, ap, ◌∙◌, arith}
+use Rattle.std.proofs.Common.{◌≡◌, ℕ, ◌≤◌, cond, leb, List, [], ◌++◌, length, take, drop, sym, refl, ap, ◌∙◌, arith}
 use Rattle.std.proofs.lemmas.List.{take_at}
 use Rattle.std.proofs.lemmas.Bool.{le-leb}
 use Rattle.image.specs.Laid.{Lays}
-use Rattle.image.specs.Picture.{Units, units, image_bytes, read}
+use Rattle.image.specs.Picture.{units, image_bytes, read}
 use Rattle.image.proofs.Rounds.{round_trip}
 use Rattle.image.proofs.image.Image.write.Goals as goal
 

@@ -1,8 +1,7 @@
 use Rattle.std.proofs.Common.{◌≡◌, ℕ, Bool, true, false, cond, ◌&&◌, leb, List, map, length, sym, refl, ap, ◌∙◌}
 use Rattle.std.proofs.lemmas.List.{length-map}
 use Rattle.product.specs.declared.interface.Interface.{Interface}
-use Rattle.product.specs.declared.row.Row.{Row}
-use Rattle.product.specs.Parts.{Outcome, Parts, rows, made, faulted}
+use Rattle.product.specs.Parts.{Parts, rows, made, faulted}
 use Rattle.translator.specs.Owed.{admitted}
 use Rattle.translator.specs.Echoed.{echo, echoed}
 use Rattle.translator.proofs.echo.EchoTranslator.translate.Goals as goal
