@@ -1,17 +1,17 @@
 -- The meaning of a source depends on its imports only through the names, kinds and values of their rows.
 use Rattle.std.specs.Prelude.{◌≡◌, ℕ, zero, suc, ◌-◌, Bool, true, false, cond, ◌&&◌, List, [], ◌∷◌, length, ℤ, Some, None, Option, ◌==◌, nat_le, nat_lt, slice_index_or, refl}
-use Rattle.std.proofs.Common.{sym, ap, subst, ◌∙◌, arith, of_z, to_z}
+use Rattle.std.proofs.Common.{sym, ap, subst, ◌∙◌, to_z}
 use Rattle.std.specs.Int.{w32}
 use Rattle.std.specs.Str.{bytes_eq}
 use Rattle.std.proofs.lemmas.Bool.{false≢true, and_parts}
 use Rattle.product.specs.declared.row.Row.{Row}
 use Rattle.product.specs.Parts.{Outcome, made, faulted, first_row}
-use Rattle.translator.specs.Owed.{admitted, Alike, Agree}
+use Rattle.translator.specs.Owed.{Alike, Agree}
 use Rattle.translator.specs.House.{shape, like, house}
 use Rattle.translator.proofs.Alike.{like-shape, house_itself}
 use Rattle.tokens.specs.Stream.{stream}
 use Rattle.grammar.specs.Walk.{declarations}
-use Rattle.scope.specs.Uses.{row_at, as_constant, as_function, Outside, outside}
+use Rattle.scope.specs.Uses.{row_at, as_constant, as_function, outside}
 use Rattle.formula.specs.Language.{formula, too_much, with_lines}
 
 abbrev Shape : Type 0

@@ -1,6 +1,6 @@
 -- Products of formula sources keep the limits.
-use Rattle.std.specs.Prelude.{◌≡◌, ℕ, zero, suc, ◌+◌, ◌-◌, ◌/◌, ◌%◌, ◌<◌, ◌≤◌, Bool, true, false, cond, ◌&&◌, List, [], ◌∷◌, ◌++◌, length, ℤ, pos, negsuc, Some, None, Ok, Err, Option, Result, FitsSigned, ◌==◌, nat_le, nat_lt, slice_index_or, slice_range, refl}
-use Rattle.std.proofs.Common.{sym, ap, subst, ◌∙◌, mod-lt, arith, lit<, lit≤, of_z, to_z}
+use Rattle.std.specs.Prelude.{◌≡◌, ℕ, suc, ◌+◌, ◌-◌, ◌/◌, ◌%◌, ◌<◌, ◌≤◌, Bool, true, false, cond, ◌&&◌, List, [], ◌∷◌, ◌++◌, length, ℤ, pos, negsuc, Some, None, Ok, Err, Option, Result, FitsSigned, ◌==◌, nat_le, nat_lt, slice_index_or, slice_range, refl}
+use Rattle.std.proofs.Common.{sym, subst, mod-lt, arith, lit<, lit≤, of_z, to_z}
 use Rattle.std.specs.Int.{w32}
 use Rattle.std.specs.Option.{unwrap_or}
 use Rattle.std.specs.List.{AllByRecursion as All}
@@ -8,12 +8,12 @@ use Rattle.std.specs.Str.{bytes_eq}
 use Rattle.std.proofs.ByRecursion.{All-append, All-push, All-weaker}
 use Rattle.std.proofs.lemmas.List.{length-append}
 use Rattle.std.proofs.lemmas.Int.{to_z-of_z}
-use Rattle.std.proofs.lemmas.Bool.{leb-true, ltb-true, and_parts, true≢false}
+use Rattle.std.proofs.lemmas.Bool.{leb-true, ltb-true, and_parts}
 use Rattle.names.specs.declared.name.Name.{Name}
 use Rattle.names.specs.declared.refusal.Fault.{Fault}
 use Rattle.product.specs.declared.row.Row.{Row}
 use Rattle.product.specs.declared.row.Reference.{Reference}
-use Rattle.product.specs.Parts.{Parts, Outcome, made, faulted, no_parts, first_row, SoundRow, WithinRows, SoundReference, Within}
+use Rattle.product.specs.Parts.{Parts, no_parts, first_row, SoundRow, WithinRows, SoundReference, Within}
 use Rattle.translator.specs.Owed.{admitted, Kept}
 use Rattle.order.specs.Dependency.{Outcome as Order, all as in_order, stuck, ordered}
 use Rattle.tokens.specs.declared.token.Operator.{Operator}
@@ -28,12 +28,12 @@ use Rattle.grammar.specs.Expression.{expression}
 use Rattle.grammar.specs.Line.{said, x_word}
 use Rattle.grammar.specs.Walk.{ends, noted, onward, walk, declarations, body}
 use Rattle.scope.specs.Names.{misnamed, entry_of}
-use Rattle.scope.specs.Uses.{row_at, as_constant, as_function, Outside, outside, misused}
+use Rattle.scope.specs.Uses.{as_function, Outside, outside, misused}
 use Rattle.values.specs.declared.known.Known.{Known}
-use Rattle.values.specs.Arithmetic.{small, ranged}
-use Rattle.values.specs.Evaluation.{known, evaluating, result, value, learnt}
+use Rattle.values.specs.Arithmetic.{small}
+use Rattle.values.specs.Evaluation.{known, evaluating, result, learnt}
 use Rattle.values.specs.Needed.{constants, lines, needs}
-use Rattle.values.specs.Solved.{nth, behind, valued, circle, settled, solved}
+use Rattle.values.specs.Solved.{nth, behind, valued, settled, solved}
 use Rattle.emission.specs.Acting.{performed}
 use Rattle.emission.specs.Wrote.{done, then, adding, referring, entering, showing_row, four, opcode, pushing, calling}
 use Rattle.emission.specs.Emitted.{own_call, word_call, emitting, function_of, functions, row_of, rows_of}

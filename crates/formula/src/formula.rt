@@ -1,11 +1,9 @@
 // The formula translator.
-ghost use Rattle.std.specs.Prelude.{◌≡◌, ◌+◌, ◌%◌, ◌^◌, map, IfOk};
-ghost use Rattle.product.specs.Parts.{rows, parts};
-ghost use Rattle.translator.specs.Owed.{shown};
+ghost use Rattle.std.specs.Prelude.{◌≡◌, IfOk};
 ghost use Rattle.translator.specs.House.{house};
 ghost use Rattle.formula.specs.Language.{formula};
 ghost use Rattle.translator.proofs.Alike.{house_itself, house_turned, house_chained};
-ghost use Rattle.formula.specs.Congruence;
+ghost use Rattle.formula.specs.Congruence.{agrees};
 ghost use Rattle.formula.specs.Limits.{keeps};
 
 use crate::phases::compile;
@@ -60,7 +58,7 @@ impl Translator for Formula {
 
     ghost chained = { house_chained };
 
-    ghost agrees = { Congruence.agrees };
+    ghost agrees = { agrees };
 
     ghost bounded = { λ source imports h. keeps source imports };
 

@@ -1,5 +1,5 @@
 -- The turns of the loop over the tokens of a unit.
-use Rattle.std.proofs.Common.{◌≡◌, ℕ, ◌+◌, ◌-◌, ◌<◌, ◌≤◌, min, Bool, true, false, cond, List, [], ◌∷◌, ◌++◌, length, get_or, take, drop, Ok, Err, Result, sym, refl, ap, ◌∙◌, subst, ⊎_elim, arith}
+use Rattle.std.proofs.Common.{◌≡◌, ℕ, ◌+◌, ◌-◌, ◌<◌, ◌≤◌, min, Bool, true, false, cond, List, [], ◌∷◌, ◌++◌, length, get_or, take, drop, Ok, Err, Result, sym, ap, ◌∙◌, ⊎_elim, arith}
 use Rattle.std.proofs.lemmas.List.{take_all, drop_all, length-take, length-append}
 use Rattle.std.proofs.lemmas.Slice.{between_is}
 use Rattle.std.proofs.lemmas.Bool.{cases_lt}
@@ -9,7 +9,7 @@ use Rattle.grammar.specs.declared.verdict.Verdict.{Verdict}
 use Rattle.grammar.specs.declared.verdict.Verdict.TheVariants.{Nothing, Wrong, Declares}
 use Rattle.grammar.specs.declared.verdict.Declaration.{Declaration}
 use Rattle.grammar.specs.Line.{said}
-use Rattle.grammar.specs.Walk.{ends, noted, onward, walk, told}
+use Rattle.grammar.specs.Walk.{ends, noted, onward, walk}
 use Rattle.grammar.proofs.Turns.{turn}
 
 -- a part within the list is the part that was asked for

@@ -1,7 +1,7 @@
 -- Whether tokens are an expression, whatever it comes to.
-use Rattle.std.specs.Prelude.{ℕ, Bool, true, false, List, [], ◌∷◌, Some, None, Option}
+use Rattle.std.specs.Prelude.{List, Some, None, Option}
 use Rattle.tokens.specs.declared.token.Token.{Token}
-use Rattle.grammar.specs.Expression.{Meaning, expression}
+use Rattle.grammar.specs.Expression.{Meaning}
 
 -- every part comes to something
 abbrev pub checking : Meaning (Unit {0})

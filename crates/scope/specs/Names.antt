@@ -1,7 +1,6 @@
 -- Names that are declared: whether they may be, and what they stand for.
-use Rattle.std.specs.Prelude.{ℕ, ◌+◌, Bool, true, false, cond, not, ◌||◌, List, [], ◌∷◌, take, Some, None, Option, nat_le}
+use Rattle.std.specs.Prelude.{ℕ, ◌+◌, Bool, false, cond, not, ◌||◌, List, [], ◌∷◌, take, Some, None, Option, nat_le}
 use Rattle.std.specs.Str.{bytes_eq}
-use Rattle.names.specs.declared.name.Name.{Name}
 use Rattle.names.specs.declared.refusal.Fault.{Fault}
 use Rattle.grammar.specs.declared.verdict.Declaration.{Declaration}
 use Rattle.grammar.specs.Line.{x_word, const_word, fun_word, formula_word}

@@ -3,7 +3,6 @@ use Rattle.std.specs.Prelude.{ℕ, ◌-◌, Bool, true, false, cond, ◌&&◌, �
 use Rattle.std.specs.Int.{w32}
 use Rattle.std.proofs.Common.{of_z, to_z}
 use Rattle.std.specs.Str.{bytes_eq}
-use Rattle.names.specs.declared.name.Name.{Name}
 use Rattle.names.specs.declared.refusal.Fault.{Fault}
 use Rattle.product.specs.declared.row.Row.{Row}
 use Rattle.product.specs.Parts.{first_row}
@@ -12,7 +11,7 @@ use Rattle.tokens.specs.declared.token.Token.TheVariants.{Open, Close, Operator 
 use Rattle.grammar.specs.declared.verdict.Declaration.{Declaration}
 use Rattle.grammar.specs.Line.{x_word, opens}
 use Rattle.grammar.specs.Walk.{body}
-use Rattle.scope.specs.Names.{is_constant, entry_of, at_line, first}
+use Rattle.scope.specs.Names.{is_constant, entry_of, at_line}
 
 -- the first row of a name in the import at a position, counted from 1
 abbrev pub row_at : List (List Row) → ℕ → List ℕ → Option Row

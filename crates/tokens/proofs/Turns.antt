@@ -1,12 +1,12 @@
 -- The line reader's turns.
-use Rattle.std.proofs.Common.{◌≡◌, ℕ, ◌+◌, ◌-◌, ◌<◌, ◌≤◌, Bool, true, false, cond, ◌||◌, eqb, List, [], ◌∷◌, ◌++◌, length, get_or, drop, IfSome, Some, None, Option, sym, refl, ap, ◌∙◌, subst, arith, lit≤}
+use Rattle.std.proofs.Common.{◌≡◌, ℕ, ◌+◌, ◌<◌, ◌≤◌, Bool, true, false, cond, ◌||◌, eqb, List, [], ◌∷◌, ◌++◌, length, get_or, drop, IfSome, Some, None, Option, sym, ap, ◌∙◌, subst, arith, lit≤}
 use Rattle.std.specs.Option.{option_to_list}
 use Rattle.std.proofs.lemmas.List.{append-nil, append_assoc, length-append, at_drop_more, at_drop_all}
 use Rattle.tokens.specs.declared.token.Token.{Token}
 use Rattle.tokens.specs.declared.token.Token.TheVariants.{Open, Close, LineEnd}
 use Rattle.tokens.specs.declared.state.State.{State}
 use Rattle.tokens.specs.declared.state.State.TheVariants.{Between, Inside, Comment}
-use Rattle.tokens.specs.Stream.{parting, single, next, ended, alone, word, given, reading, stream, Begun}
+use Rattle.tokens.specs.Stream.{parting, next, ended, alone, word, given, reading, stream, Begun}
 
 -- a word that is being read
 abbrev pending : State → ℕ

@@ -1,7 +1,7 @@
 -- The words of a source.
 use Rattle.std.proofs.Common.{◌≡◌, ℕ, ◌+◌, ◌-◌, ◌*◌, ◌^◌, ◌<◌, ◌≤◌, Bool, true, false, cond, ◌&&◌, eqb, leb, List, [], ◌∷◌, length, get_or, drop, Some, None, Option, sym, refl, ap, ◌∙◌, pow-suc, add-one, arith}
-use Rattle.std.proofs.lemmas.Bool.{false≢true, both_ways}
-use Rattle.std.proofs.lemmas.List.{at_drop_more, at_drop_all, take_rest}
+use Rattle.std.proofs.lemmas.Bool.{both_ways}
+use Rattle.std.proofs.lemmas.List.{at_drop_more}
 use Rattle.names.specs.declared.name.Name.{Name}
 use Rattle.names.specs.Spelling.{digit, padded_name, written_name, padded}
 use Rattle.names.proofs.Same.{same_name}

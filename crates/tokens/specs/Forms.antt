@@ -1,5 +1,5 @@
 -- The forms of words.
-use Rattle.std.specs.Prelude.{◌≡◌, ℕ, ◌+◌, ◌-◌, ◌*◌, Bool, true, false, cond, ◌&&◌, List, [], ◌∷◌, length, ℤ, pos, neg_ℤ, Some, None, Option, ◌==◌, nat_le, refl}
+use Rattle.std.specs.Prelude.{◌≡◌, ℕ, ◌+◌, ◌-◌, ◌*◌, Bool, true, false, cond, ◌&&◌, List, [], ◌∷◌, length, pos, neg_ℤ, Some, None, Option, ◌==◌, nat_le, refl}
 use Rattle.std.specs.Option.{unwrap_or}
 use Rattle.names.specs.declared.name.Name.{Name}
 use Rattle.names.specs.Spelling.{digit, padded_name, written_name, padded}

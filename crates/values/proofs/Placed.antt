@@ -1,11 +1,8 @@
 -- Constants by their places, and the order of the places.
-use Rattle.std.proofs.Common.{◌≡◌, ℕ, zero, suc, ◌+◌, ◌-◌, ◌<◌, ◌≤◌, Bool, true, false, cond, ltb, List, [], ◌∷◌, ◌++◌, length, get_or, take, drop, ℤ, Some, None, Ok, Err, Option, Result, Ordering, unwrap_or, sym, refl, ap, ◌∙◌, subst, arith}
-use native.Mathlib.Nat.{sub-zero}
-use Rattle.std.proofs.lemmas.List.{length-append, take_at, at_drop_more}
-use Rattle.std.proofs.lemmas.Bool.{le-ltb}
+use Rattle.std.proofs.Common.{◌≡◌, ℕ, zero, suc, ◌+◌, ◌<◌, ◌≤◌, Bool, true, false, cond, List, [], ◌∷◌, ◌++◌, length, get_or, drop, ℤ, Some, None, Ok, Option, Result, Ordering, unwrap_or, sym, refl, ap, ◌∙◌, arith}
+use Rattle.std.proofs.lemmas.List.{length-append, at_drop_more}
 use Rattle.order.specs.declared.Need.{Need}
-use Rattle.order.specs.declared.Ordered.{Ordered}
-use Rattle.order.specs.Dependency.{Outcome, all as in_order, stuck, next, left, placing, ordered, Answers, Tells}
+use Rattle.order.specs.Dependency.{all as in_order, stuck, next, left, placing, ordered}
 use Rattle.tokens.specs.declared.token.Token.{Token}
 use Rattle.names.specs.declared.refusal.Fault.{Fault}
 use Rattle.grammar.specs.Walk.{onward}

@@ -1,5 +1,5 @@
 -- Numbers of 32 bits in 64.
-use Rattle.std.proofs.Common.{◌≡◌, ℕ, zero, suc, ◌-◌, ◌*◌, ◌/◌, ◌^◌, ◌<◌, ◌≤◌, Bool, true, false, ℤ, pos, negsuc, ◌*ℤ◌, neg_ℤ, sym, refl, ap, ◌∙◌, subst, mul-le-mul, div-le_self, arith, w32, w64, SFits, to_z, of_z}
+use Rattle.std.proofs.Common.{◌≡◌, ℕ, zero, suc, ◌*◌, ◌/◌, ◌<◌, ◌≤◌, false, ℤ, pos, negsuc, ◌*ℤ◌, neg_ℤ, sym, ap, ◌∙◌, mul-le-mul, div-le_self, arith, w32, w64, SFits, to_z, of_z}
 use lib.Signed.{mag, quot_z}
 use Rattle.std.proofs.lemmas.Int.{to_z-of_z}
 use Rattle.std.proofs.lemmas.Bool.{true≢false}
@@ -29,19 +29,19 @@ bits_some (pos zero) f e = absurd (true≢false (sym e))
 bits_some (pos (suc n)) f e = omega arith
 bits_some (negsuc n) f e = let h : n < 2147483648 = f.sfits in omega arith
 
-times-small : (a b : ℕ) → a ≤ 2147483648 → b ≤ 2147483648 → a * b ≤ 4611686018427387904
-times-small a b h k = mul-le-mul h k
+product_small : (a b : ℕ) → a ≤ 2147483648 → b ≤ 2147483648 → a * b ≤ 4611686018427387904
+product_small a b h k = mul-le-mul h k
 
 pub times_fits : (a b : ℤ) → SFits w32 a → SFits w32 b → SFits w64 (a *ℤ b)
 times_fits (pos a) (pos b) f g =
     let h : a < 2147483648 = f.sfits in let k : b < 2147483648 = g.sfits in
-    let t = times-small a b (omega arith) (omega arith) in record { sfits = omega arith }
+    let t = product_small a b (omega arith) (omega arith) in record { sfits = omega arith }
 times_fits (pos a) (negsuc b) f g =
     let h : a < 2147483648 = f.sfits in let k : b < 2147483648 = g.sfits in
-    let t = times-small a (suc b) (omega arith) (omega arith) in let m = mag_neg (a * suc b) in record { sfits = omega arith }
+    let t = product_small a (suc b) (omega arith) (omega arith) in let m = mag_neg (a * suc b) in record { sfits = omega arith }
 times_fits (negsuc a) (pos b) f g =
     let h : a < 2147483648 = f.sfits in let k : b < 2147483648 = g.sfits in
-    let t = times-small (suc a) b (omega arith) (omega arith) in let m = mag_neg (suc a * b) in record { sfits = omega arith }
+    let t = product_small (suc a) b (omega arith) (omega arith) in let m = mag_neg (suc a * b) in record { sfits = omega arith }
 times_fits (negsuc a) (negsuc b) f g =
     let h : a < 2147483648 = f.sfits in let k : b < 2147483648 = g.sfits in
-    let t = times-small (suc a) (suc b) (omega arith) (omega arith) in record { sfits = omega arith }
+    let t = product_small (suc a) (suc b) (omega arith) (omega arith) in record { sfits = omega arith }

@@ -5,7 +5,7 @@ ghost use Rattle.grammar.specs.Expression.{Meaning, closing, within, level, expr
 ghost use Rattle.bounded.specs.Held.{held};
 ghost use Rattle.grammar.specs.Walk.{told};
 ghost use Rattle.scope.specs.Uses.{outside};
-ghost use Rattle.values.specs.Evaluation.{known as known-value, evaluating, value, learnt};
+ghost use Rattle.values.specs.Evaluation.{known as known_in, evaluating, value, learnt};
 ghost use Rattle.values.specs.Seen.{seen};
 
 use crate::arithmetic::{in_range, operate};
@@ -19,7 +19,7 @@ use tokens::Token;
 
 // The value of a known constant.
 pub fn known_value(name: &Name, known: &[Known]) -> Option<i32>
-    ensures { result ≡ known-value name.now.bytes known.now }
+    ensures { result ≡ known_in name.now.bytes known.now }
 {
     let bytes = name.bytes();
     for k in known {

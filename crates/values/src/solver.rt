@@ -5,7 +5,6 @@ ghost use Rattle.product.specs.Parts.{rows};
 ghost use Rattle.order.specs.Dependency.{ordered};
 ghost use Rattle.grammar.specs.Walk.{told};
 ghost use Rattle.scope.specs.Uses.{outside};
-ghost use Rattle.values.specs.Needed.{constants as constants-of, lines, needs as needs_of};
 ghost use Rattle.values.specs.Solved.{nth, behind, valued, circle, settled, solved};
 ghost use Rattle.std.specs.Ordering.{nat_cmp};
 

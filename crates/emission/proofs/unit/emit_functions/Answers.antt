@@ -1,4 +1,4 @@
-use Rattle.std.proofs.Common.{◌≡◌, ℕ, ◌+◌, ◌<◌, Bool, true, false, cond, List, [], ◌∷◌, map, length, get_or, drop, Some, None, Option, sym, ap, ◌∙◌}
+use Rattle.std.proofs.Common.{◌≡◌, ℕ, ◌+◌, ◌<◌, true, false, cond, List, map, length, get_or, drop, Option, sym, ap, ◌∙◌}
 use Rattle.product.specs.Parts.{Parts, rows, parts}
 use Rattle.tokens.specs.declared.token.Token.{Token}
 use Rattle.grammar.specs.declared.verdict.Declaration.{Declaration}
@@ -31,7 +31,7 @@ loop-d-preserved c =
     let own = c.args.own.now in
     let F = functions own c.args.known.now (outside (map rows c.args.imports.now)) c.args.tokens.now in
     elim c.if-d.branch [
-      | goal.then-d::else-not-emit_function w ↦
+      | goal.then-d+else-not-emit_function w ↦
           ap (λ u. F (parts u) (drop (c.loop-d.d-index + 1) own)) w.out-is
           ∙ onto own c.args.known.now (outside (map rows c.args.imports.now)) c.args.tokens.now (parts c.loop-d.out) c.loop-d.d-index _ _ c.loop-d.invariant c.loop-d-test.true c.d-item.is w.if-d.true _ w.if-not-emit_function.ensures
       | goal.else-d w ↦

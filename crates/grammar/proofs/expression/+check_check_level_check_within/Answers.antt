@@ -1,4 +1,4 @@
-use Rattle.std.proofs.Common.{sym, ap, ◌∙◌, arith}
+use Rattle.std.proofs.Common.{sym, ap, ◌∙◌}
 use Rattle.grammar.specs.Form.{checking, behind}
 use Rattle.grammar.proofs.Levels.{expression-more}
 use Rattle.grammar.proofs.expression.+check_check_level_check_within.Goals as goal

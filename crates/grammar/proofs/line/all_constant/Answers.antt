@@ -1,4 +1,4 @@
-use Rattle.std.proofs.Common.{◌≡◌, ◌+◌, Bool, ◌&&◌, drop, sym, ap, ◌∙◌}
+use Rattle.std.proofs.Common.{◌+◌, ◌&&◌, drop, ap, ◌∙◌}
 use Rattle.grammar.specs.Line.{all_constant, opens}
 use Rattle.grammar.proofs.Turns.{turn, end}
 use Rattle.grammar.proofs.line.all_constant.Goals as goal

@@ -1,4 +1,4 @@
-use Rattle.std.proofs.Common.{◌≡◌, ◌+◌, Bool, ◌||◌, drop, sym, ap, ◌∙◌}
+use Rattle.std.proofs.Common.{◌+◌, ◌||◌, drop, ap, ◌∙◌}
 use Rattle.grammar.specs.Line.{any_formless}
 use Rattle.grammar.proofs.Turns.{turn, end}
 use Rattle.grammar.proofs.line.any_no_form.Goals as goal

@@ -1,4 +1,4 @@
-use Rattle.std.proofs.Common.{◌≡◌, ◌+◌, length, drop, ap, ◌∙◌, arith}
+use Rattle.std.proofs.Common.{◌+◌, length, drop, ap, ◌∙◌, arith}
 use Rattle.bounded.specs.Held.{held}
 use Rattle.grammar.specs.Walk.{walk, declarations}
 use Rattle.grammar.proofs.Turns.{end}

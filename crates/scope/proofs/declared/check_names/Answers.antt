@@ -1,4 +1,4 @@
-use Rattle.std.proofs.Common.{◌≡◌, ◌+◌, drop, ap, ◌∙◌}
+use Rattle.std.proofs.Common.{◌+◌, drop, ap, ◌∙◌}
 use Rattle.grammar.proofs.Turns.{turn, end}
 use Rattle.scope.specs.Names.{first, misnamed}
 use Rattle.scope.proofs.declared.check_names.Goals as goal

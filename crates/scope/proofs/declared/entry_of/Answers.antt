@@ -1,4 +1,4 @@
-use Rattle.std.proofs.Common.{◌≡◌, ℕ, ◌+◌, Bool, true, false, cond, drop, Some, None, sym, ap, ◌∙◌, arith}
+use Rattle.std.proofs.Common.{◌≡◌, ◌+◌, cond, drop, Some, None, sym, ap, ◌∙◌, arith}
 use Rattle.grammar.proofs.Turns.{turn, end}
 use Rattle.scope.specs.Names.{entry_of}
 use Rattle.scope.proofs.declared.entry_of.Goals as goal

@@ -1,4 +1,4 @@
-use Rattle.std.proofs.Common.{◌≡◌, ◌+◌, cond, not, drop, ap, ◌∙◌}
+use Rattle.std.proofs.Common.{◌+◌, cond, not, drop, ap, ◌∙◌}
 use Rattle.grammar.proofs.Turns.{turn, end}
 use Rattle.scope.specs.Names.{is_constant}
 use Rattle.scope.proofs.declared.is_constant.Goals as goal

@@ -1,4 +1,4 @@
-use Rattle.std.proofs.Common.{◌≡◌, ◌+◌, ◌||◌, drop, ap, ◌∙◌}
+use Rattle.std.proofs.Common.{◌+◌, ◌||◌, drop, ap, ◌∙◌}
 use Rattle.grammar.proofs.Turns.{turn, end}
 use Rattle.scope.specs.Names.{declared}
 use Rattle.scope.proofs.declared.is_declared.Goals as goal

@@ -1,4 +1,4 @@
-use Rattle.std.proofs.Common.{◌≡◌, ◌+◌, ◌&&◌, map, drop, ap, ◌∙◌}
+use Rattle.std.proofs.Common.{◌+◌, ◌&&◌, map, drop, ap, ◌∙◌}
 use Rattle.product.specs.Parts.{rows}
 use Rattle.grammar.specs.Line.{opens}
 use Rattle.grammar.proofs.Turns.{turn, end}

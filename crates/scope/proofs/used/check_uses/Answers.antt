@@ -1,6 +1,5 @@
-use Rattle.std.proofs.Common.{◌≡◌, ◌+◌, false, cond, map, drop, Some, None, sym, ap, ◌∙◌}
+use Rattle.std.proofs.Common.{◌+◌, false, cond, map, drop, Some, ap, ◌∙◌}
 use Rattle.product.specs.Parts.{rows}
-use Rattle.grammar.specs.Walk.{body}
 use Rattle.grammar.proofs.Turns.{turn, end}
 use Rattle.scope.specs.Names.{at_line}
 use Rattle.scope.specs.Uses.{outside, all_useful, misused}

@@ -1,8 +1,8 @@
-use Rattle.std.proofs.Common.{◌≡◌, ◌+◌, ◌≤◌, [], ◌++◌, length, get_or, drop, IfSome, sym, refl, ap, ◌∙◌, subst, arith}
+use Rattle.std.proofs.Common.{◌≡◌, ◌+◌, ◌≤◌, [], ◌++◌, length, get_or, drop, IfSome, sym, ap, ◌∙◌, subst, arith}
 use Rattle.std.proofs.lemmas.List.{append-nil}
 use Rattle.std.proofs.lemmas.Bool.{le-leb}
 use Rattle.bounded.specs.Held.{held}
-use Rattle.tokens.specs.Stream.{ended, reading, next, Begun}
+use Rattle.tokens.specs.Stream.{reading, Begun}
 use Rattle.tokens.proofs.Turns.{word_room, own_room, joined, turn_is, end_is, begun-next, begun-ended}
 use Rattle.tokens.proofs.lexer.read.Goals as goal
 

@@ -1,4 +1,4 @@
-use Rattle.std.proofs.Common.{◌≡◌, ◌<◌, cond, pos, None, sym, ap, ◌∙◌, subst, w32, w64, SFits, to_z, of_z}
+use Rattle.std.proofs.Common.{◌<◌, cond, pos, None, sym, ap, ◌∙◌, subst, w32, w64, SFits, to_z, of_z}
 use lib.Signed.{quot_z}
 use Rattle.std.proofs.lemmas.Int.{to_z-of_z}
 use Rattle.values.specs.Arithmetic.{ranged, equal}

@@ -1,4 +1,4 @@
-use Rattle.std.proofs.Common.{◌≡◌, ◌+◌, cond, drop, Some, ap, ◌∙◌, w32, to_z, of_z}
+use Rattle.std.proofs.Common.{◌+◌, cond, drop, Some, ap, ◌∙◌, w32, to_z, of_z}
 use Rattle.grammar.proofs.Turns.{turn, end}
 use Rattle.values.specs.Evaluation.{known}
 use Rattle.values.proofs.evaluation.known_value.Goals as goal

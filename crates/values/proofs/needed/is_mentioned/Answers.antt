@@ -1,4 +1,4 @@
-use Rattle.std.proofs.Common.{◌≡◌, ◌+◌, ◌||◌, drop, ap, ◌∙◌}
+use Rattle.std.proofs.Common.{◌+◌, ◌||◌, drop, ap, ◌∙◌}
 use Rattle.grammar.proofs.Turns.{turn, end}
 use Rattle.values.specs.Needed.{mentions}
 use Rattle.values.proofs.needed.is_mentioned.Goals as goal

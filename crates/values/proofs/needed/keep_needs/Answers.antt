@@ -1,4 +1,4 @@
-use Rattle.std.proofs.Common.{◌≡◌, ◌+◌, ◌++◌, length, drop, sym, refl, ap, ◌∙◌, arith}
+use Rattle.std.proofs.Common.{◌+◌, ◌++◌, refl, ap, ◌∙◌, arith}
 use Rattle.bounded.specs.Held.{held}
 use Rattle.grammar.specs.Walk.{body}
 use Rattle.values.specs.Needed.{needs_of, needs}

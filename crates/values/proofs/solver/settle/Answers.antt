@@ -1,4 +1,4 @@
-use Rattle.std.proofs.Common.{◌≡◌, map, length, replicate, Err, ap, ◌∙◌, arith}
+use Rattle.std.proofs.Common.{map, replicate, Err, ap, ◌∙◌, arith}
 use Rattle.product.specs.Parts.{rows}
 use Rattle.scope.specs.Uses.{outside}
 use Rattle.values.proofs.Settles.{settles, sticks, shorts}

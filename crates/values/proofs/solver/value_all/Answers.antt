@@ -1,9 +1,7 @@
-use Rattle.std.proofs.Common.{◌≡◌, ◌+◌, ◌∷◌, map, get_or, drop, ap, ◌∙◌, arith}
-use Rattle.std.proofs.lemmas.List.{at_drop_more}
+use Rattle.std.proofs.Common.{map, get_or, arith}
 use Rattle.bounded.specs.Held.{held}
 use Rattle.product.specs.Parts.{rows}
-use Rattle.grammar.specs.Walk.{onward}
-use Rattle.grammar.proofs.Turns.{turn, end}
+use Rattle.grammar.proofs.Turns.{end}
 use Rattle.scope.specs.Uses.{outside}
 use Rattle.values.specs.Solved.{nth, valued}
 use Rattle.values.proofs.Placed.{behind_few, onto}

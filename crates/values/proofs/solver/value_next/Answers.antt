@@ -1,4 +1,4 @@
-use Rattle.std.proofs.Common.{◌≡◌, map, ap, ◌∙◌}
+use Rattle.std.proofs.Common.{map, ap, ◌∙◌}
 use Rattle.bounded.specs.Held.{held}
 use Rattle.product.specs.Parts.{rows}
 use Rattle.scope.specs.Uses.{outside}

@@ -4,7 +4,7 @@ use Rattle.std.proofs.lemmas.Bool.{and_parts}
 use Rattle.bounded.specs.Held.{held}
 use Rattle.names.specs.declared.refusal.Fault.{Fault}
 use Rattle.product.specs.declared.interface.Interface.{Interface}
-use Rattle.product.specs.Parts.{Outcome, rows, faulted}
+use Rattle.product.specs.Parts.{rows}
 use Rattle.translator.specs.Owed.{admitted}
 use Rattle.tokens.specs.declared.token.Token.{Token}
 use Rattle.tokens.specs.Stream.{stream}
