@@ -1,5 +1,5 @@
 -- The copies stay true: what put, get and drop leave of them agrees with the store below.
-use Rattle.std.proofs.Common.{◌≡◌, ℕ, zero, suc, ◌-◌, ◌≤◌, true, false, not, eqb, leb, List, [], ◌∷◌, length, take, is_some, IfOk, Some, None, Err, Option, Result, sym, refl, ap, ◌∙◌, subst, arith}
+use Rattle.std.proofs.Common.{◌≡◌, ℕ, zero, suc, ◌≤◌, true, false, not, eqb, leb, List, [], ◌∷◌, length, take, is_some, IfOk, Some, None, Err, Option, Result, sym, refl, ap, ◌∙◌, subst, arith}
 use Rattle.std.specs.Option.{option_map}
 use Rattle.std.specs.Str.{bytes_eq}
 use Rattle.std.proofs.lemmas.Bool.{true≢false, and_parts, and_from, not-true, not_from_false, ne_eqb, cond-false, leb-true}

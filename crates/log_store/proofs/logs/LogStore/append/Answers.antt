@@ -1,4 +1,4 @@
-use Rattle.std.proofs.Common.{◌≡◌, ℕ, ◌+◌, ◌-◌, ◌≤◌, length, take, vec_items, vec_len, sym, refl, ap, ◌∙◌, arith}
+use Rattle.std.proofs.Common.{◌≡◌, ℕ, ◌+◌, ◌≤◌, length, take, vec_items, vec_len, sym, refl, ap, ◌∙◌, arith}
 use Rattle.store.specs.Pairs.{once}
 use Rattle.area.specs.Layout.{rows_of}
 use Rattle.area.proofs.Records.{name-length}
@@ -23,7 +23,14 @@ invariant_of-self c =
     let p = c.requires.row in
     let inside : s.end + (11 + length bs) ≤ vec_len c.write.new.area = omega arith in
     let few : s.count + 1 ≤ s.rows = omega arith in
-    (s.counted ∙ ap rows_of (sym l), (inside, (made.good, (ap once made.pairs ∙ once_more L q bs s.apart c.requires.fresh, ((ap (λ (k : ℕ). k + 1) n ∙ sym m ∙ ap length (sym made.pairs)), (few, tt))))))
+    record {
+      counted = s.counted ∙ ap rows_of (sym l);
+      inside = inside;
+      good = made.good;
+      apart = ap once made.pairs ∙ once_more L q bs s.apart c.requires.fresh;
+      number = ap (λ (k : ℕ). k + 1) n ∙ sym m ∙ ap length (sym made.pairs);
+      few = few;
+    }
 
 pub returns : goal.returns
 returns c =

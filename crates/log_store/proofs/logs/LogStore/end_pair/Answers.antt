@@ -26,7 +26,7 @@ invariant_of-self c =
     let inside : s.end ≤ vec_len c.bury.new.area = omega arith in
     let number : s.count - 1 ≡ length (log_pairs (records (take s.end (vec_items c.bury.new.area)))) = omega arith in
     let few : s.count - 1 ≤ s.rows = omega arith in
-    (s.counted ∙ ap rows_of (sym l), (inside, (e.good, (e.apart, (number, (few, tt))))))
+    record { counted = s.counted ∙ ap rows_of (sym l); inside = inside; good = e.good; apart = e.apart; number = number; few = few }
 
 pub returns-in-Some : goal.returns-in-Some
 returns-in-Some c =

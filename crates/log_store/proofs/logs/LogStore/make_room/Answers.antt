@@ -1,4 +1,4 @@
-use Rattle.std.proofs.Common.{◌≡◌, ◌+◌, ◌-◌, ◌*◌, ◌<◌, ◌≤◌, length, vec_items, vec_len, sym, refl, ap, ◌∙◌, arith}
+use Rattle.std.proofs.Common.{◌≡◌, ◌+◌, ◌*◌, ◌<◌, ◌≤◌, length, vec_items, vec_len, sym, refl, ap, ◌∙◌, arith}
 use Rattle.store.specs.Pairs.{once}
 use Rattle.area.specs.Layout.{rows_of, slot_size}
 use Rattle.log_store.proofs.Marks.{roomy_as_is, roomy_slid, slid_fits, slid_inside}
@@ -17,7 +17,14 @@ invariant_of-self c =
     let back = slid_inside s.end c.slide-self.result xs within c.slide-self.ensures.end in
     let l = c.slide-self.ensures.len in
     let inside : c.slide-self.result ≤ vec_len c.slide-self.new.area = omega arith in
-    (s.counted ∙ ap rows_of (sym l), (inside, (made.good, (ap once made.pairs ∙ s.apart, (s.number ∙ ap length (sym made.pairs), (s.few, tt))))))
+    record {
+      counted = s.counted ∙ ap rows_of (sym l);
+      inside = inside;
+      good = made.good;
+      apart = ap once made.pairs ∙ s.apart;
+      number = s.number ∙ ap length (sym made.pairs);
+      few = s.few;
+    }
 
 pub returns-then-n-len : goal.returns-then-n-len
 returns-then-n-len c =

@@ -13,7 +13,10 @@ pub invariant_of-self : goal.invariant_of-self
 invariant_of-self c =
     let n = c.args.self.now.rows in
     let gone = dropped n (vec_items c.args.self.now.area) c.args.name.bytes c.in-Some.i (slot_of c) c.args.self.now.apart in
-    (c.args.self.now.counted ∙ ap rows_of (sym c.bury.ensures.len), (ap (λ (x : List ℕ). once (slot_pairs n x)) c.bury.ensures.after ∙ gone.1, tt))
+    record {
+      counted = c.args.self.now.counted ∙ ap rows_of (sym c.bury.ensures.len);
+      apart = ap (λ (x : List ℕ). once (slot_pairs n x)) c.bury.ensures.after ∙ gone.1;
+    }
 
 pub returns-in-Some : goal.returns-in-Some
 returns-in-Some c =

@@ -13,7 +13,7 @@ invariant_of-self c =
     let bs = c.args.content.now in
     let s = subst (λ (x : List ℕ). SlotFor n x q c.in-Some.i) c.as_slice.ensures.value c.in-Some.ensures in
     let done = put-done n (vec_len v) (vec_items v) (vec_items c.write.new.area) q bs c.in-Some.i c.write.result (name-length q c.args.name.valid) c.if-content-gt-LONGEST.false c.args.self.now.counted (sym c.as_slice.ensures.len ∙ ap length c.as_slice.ensures.value) c.write.ensures.fits c.write.ensures.after s c.args.self.now.apart in
-    (c.args.self.now.counted ∙ ap rows_of (sym c.write.ensures.len), (done.0.1, tt))
+    record { counted = c.args.self.now.counted ∙ ap rows_of (sym c.write.ensures.len); apart = done.0.1 }
 
 pub returns : goal.returns
 returns c =
