@@ -27,12 +27,11 @@ done_at d i x m h e =
     get_or-take d.count (map finished (vec_items d.rows)) i m h ∙ get_or-map finished (vec_items d.rows) i x m (omega arith) ∙ ap finished (sym e)
 
 -- the search for a unit's interface, at place i
-module _ (d : Done) (name : Name) (i : ℕ) (x : Finished) (r : Bool) (h : i < d.count) (e : x ≡ get_or (vec_items d.rows) i x) (eq : Decides r (x.name.bytes ≡ name.bytes)) (inv : interface_of (drop i (done_list d)) name ≡ interface_of (done_list d) name) where
+module _ (d : Done) (name : Name) (i : ℕ) (x : Finished) (r : Bool) (h : i < d.count) (e : x ≡ get_or (vec_items d.rows) i x) (eq : r ≡ same x.name name) (inv : interface_of (drop i (done_list d)) name ≡ interface_of (done_list d) name) where
   turn : cond r (finished x).parts.interface (interface_of (drop (i + 1) (done_list d)) name) ≡ interface_of (done_list d) name
   turn =
       let n = done-length d in
-      let is : same x.name name ≡ r = same_from_decides (same x.name name) r (bytes_eq-Decides x.name.bytes name.bytes) eq in
-      ap (λ b. cond b (finished x).parts.interface (interface_of (drop (i + 1) (done_list d)) name)) (sym is)
+      ap (λ b. cond b (finished x).parts.interface (interface_of (drop (i + 1) (done_list d)) name)) eq
       ∙ ap (λ m. interface_of (m ∷ drop (i + 1) (done_list d)) name) (sym (done_at d i x (finished x) h e))
       ∙ sym (at_drop_more (λ ms. interface_of ms name) (done_list d) i (finished x) (omega arith))
       ∙ inv

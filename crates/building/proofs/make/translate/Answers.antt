@@ -7,7 +7,7 @@ pub returns : goal.returns
 returns g c =
     record {
       means =
-          ap (λ p. shown c.translate-result.result (parts p)) c.swap.ensures.x-after
+          ap (λ p. shown c.translate-result.result (parts p)) c.swap.ensures.x_after
           ∙ c.translate-result.ensures.means
           ∙ (λ i. g.T.Translator.means (c.as_slice.ensures i) (c.imports.ensures i));
       source = refl;

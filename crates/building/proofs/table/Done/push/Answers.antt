@@ -29,8 +29,8 @@ returns c =
     record {
       fits = sym (lt-ltb (length (done_list d)) 24 (omega arith));
       after =
-          ap (λ zs. take (d.count + 1) (map finished zs)) (written xs d.count (record { name = c.args.name; product = c.index-mut.result.now.product }) c.index-mut-2.result.now c.swap.new.x (omega arith) c.index-mut-2.ensures.value)
+          ap (λ zs. take (d.count + 1) (map finished zs)) (written xs d.count (record { name = c.args.name; product = c.index_mut.result.now.product }) c.index_mut-2.result.now c.swap.new.x (omega arith) c.index_mut-2.ensures.value)
           ∙ ap (take (d.count + 1)) (map-set finished xs d.count (record { name = c.args.name; product = c.swap.new.x }))
           ∙ take_more_set (map finished xs) d.count (finished (record { name = c.args.name; product = c.swap.new.x })) (omega arith)
-          ∙ ap (λ (p : Product). done_list d ++ record { unit = c.args.name; parts = parts p } ∷ []) c.swap.ensures.x-after;
+          ∙ ap (λ (p : Product). done_list d ++ record { unit = c.args.name; parts = parts p } ∷ []) c.swap.ensures.x_after;
     }
