@@ -1,3 +1,5 @@
+ghost use Rattle.std.specs.Prelude.{IsTrue, OnOk};
+
 use area::layout::{HEADER, LENGTH_AT, NAME_AT};
 use area::record_at::{is_live, length_of};
 use cache::Cache;
@@ -7,6 +9,22 @@ use slot::SlotStore;
 use std::fmt::Write;
 use std::test::*;
 use store::{Answer, Call, Store};
+
+// Fails a test where the condition does not hold.
+fn check(holds: bool, what: &str) -> Result<(), Fail>
+    ensures { OnOk result (IsTrue holds) }
+{
+    if holds { Ok(()) } else { Err(Fail::new(what)) }
+}
+
+// Fails a test whose text is not the one expected.
+fn check_text(text: &str, expected: &str, what: &str) -> Result<(), Fail> {
+    if text == expected {
+        Ok(())
+    } else {
+        Err(Fail::new(format_args!("{what}: {text}, not {expected}")))
+    }
+}
 
 fn number(line: &[u8], place: usize) -> Result<usize, Fail> {
     let Some(word) = words::word(line, place) else {
@@ -69,7 +87,7 @@ fn answers<S: Store>(rt: &HostRuntime, store: &mut S, script: &str) -> Result<St
             Answer::Nothing => write!(text, "no ")?,
             Answer::Refused(n) => write!(text, "{n} ")?,
             Answer::Found(n) => {
-                assert!(filled(buffer.as_slice(), n), "the buffer");
+                check(filled(buffer.as_slice(), n), "the buffer")?;
                 let byte = buffer.first().copied().unwrap_or(0);
                 write!(text, "{n}:{byte} ")?;
             }
@@ -83,17 +101,16 @@ fn every(rt: &HostRuntime, length: usize, script: &str, expected: &str) -> Resul
     let area = vec![in rt.alloc(); 1u8; length]?;
     let mut slots = SlotStore::open(area);
     let text = answers(rt, &mut slots, script)?;
-    assert_eq!(text.as_str(), expected, "slot");
+    check_text(text.as_str(), expected, "slot")?;
     let mut log = LogStore::open(slots.close());
     let text = answers(rt, &mut log, script)?;
-    assert_eq!(text.as_str(), expected, "log");
+    check_text(text.as_str(), expected, "log")?;
     let mut cache = Cache::open(rt.alloc(), SlotStore::open(log.close()))?;
     let text = answers(rt, &mut cache, script)?;
-    assert_eq!(text.as_str(), expected, "cache over slots");
+    check_text(text.as_str(), expected, "cache over slots")?;
     let mut cache = Cache::open(rt.alloc(), LogStore::open(cache.close().close()))?;
     let text = answers(rt, &mut cache, script)?;
-    assert_eq!(text.as_str(), expected, "cache over a log");
-    Ok(())
+    check_text(text.as_str(), expected, "cache over a log")
 }
 
 // Where the records of a log lie after a script.
@@ -103,7 +120,7 @@ fn lies(rt: &HostRuntime, length: usize, script: &str, expected: &str) -> Result
     let mut text = String::new(rt.alloc());
     let end = log.end();
     let area = log.area();
-    assert!(end <= area.len());
+    check(end <= area.len(), "the end")?;
     let mut rest = &area[0..end];
     let mut at = 0usize;
     for _ in 0..end {
@@ -117,12 +134,11 @@ fn lies(rt: &HostRuntime, length: usize, script: &str, expected: &str) -> Result
         at = at.saturating_add(size);
         rest = &rest[size..];
     }
-    assert_eq!(text.as_str(), expected);
-    Ok(())
+    check_text(text.as_str(), expected, "where the records lie")
 }
 
 fn name_of(piece: &[u8]) -> Result<Name, Fail> {
-    assert!(piece.len() >= HEADER);
+    check(piece.len() >= HEADER, "the header")?;
     let mut bytes = [0u8; 8];
     bytes.copy_from_slice(&piece[NAME_AT..LENGTH_AT]);
     match Name::from_padded(bytes) {
