@@ -5,7 +5,6 @@ ghost use Rattle.store.specs.Pairs.{lookup, without};
 ghost use Rattle.store.specs.Says.{PutSays, GetSays, DropSays, Within};
 ghost use Rattle.cache.specs.Recent.{after_put, after_get, TrueCopies};
 ghost use Rattle.cache.specs.Kept.{kept};
-ghost use Rattle.std.proofs.Common.{rules};
 
 use crate::over::Cache;
 use names::{Name, Refusal};
@@ -22,7 +21,7 @@ impl<S: Store> Store for Cache<S> {
 
     ghost sound = { λ c. S.Store.sound c.below × TrueCopies (kept c.copies) (S.Store.pairs c.below) };
 
-    ghost apart = { Prim.search rules };
+    ghost apart = { λ c t. S.Store.apart c.below t.0 };
 
     fn most() -> usize {
         S::most()

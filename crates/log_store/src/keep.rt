@@ -5,7 +5,6 @@ ghost use Rattle.store.specs.Says.{PutSays, GetSays, DropSays, Within};
 ghost use Rattle.area.specs.Layout.{longest};
 ghost use Rattle.log_store.specs.Chain.{marked, log_put};
 ghost use Rattle.log_store.specs.Kept.{records_of, pairs_of};
-ghost use Rattle.std.proofs.Common.{rules, arith};
 
 use crate::logs::LogStore;
 use crate::scan::fetch;
@@ -24,7 +23,7 @@ impl Store for LogStore {
 
     ghost sound = { λ _. Unit {0} };
 
-    ghost apart = { first_of (Prim.search rules, Prim.grind (arith, Self.row.coded.inj)) };
+    ghost apart = { λ s _. s.apart };
 
     fn most() -> usize {
         LONGEST

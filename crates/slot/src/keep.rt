@@ -2,7 +2,6 @@
 ghost use Rattle.std.specs.Prelude.{◌≡◌};
 ghost use Rattle.area.specs.Layout.{longest};
 ghost use Rattle.slot.specs.Slots.{slot_pairs};
-ghost use Rattle.std.proofs.Common.{rules, arith};
 
 use crate::search::{find, place};
 use crate::slots::SlotStore;
@@ -22,7 +21,7 @@ impl Store for SlotStore {
 
     ghost sound = { λ _. Unit {0} };
 
-    ghost apart = { first_of (Prim.search rules, Prim.grind (arith, Self.row.coded.inj)) };
+    ghost apart = { λ s _. s.apart };
 
     fn most() -> usize {
         LONGEST
