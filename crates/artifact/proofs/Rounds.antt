@@ -8,7 +8,7 @@ use Rattle.artifact.proofs.Sizes.{short_fits, within_short, full, full_within, f
 pub round_trip : RoundTrip
 round_trip =
     record {
-      read-written = whole_back artifact WithinArt artifact_lawful;
+      read_written = whole_back artifact WithinArt artifact_lawful;
       written_read = λ bs a e. (whole_only artifact WithinArt artifact_lawful bs a e).0;
       within = λ bs a e. (whole_only artifact WithinArt artifact_lawful bs a e).1;
       one_writing = one_writing artifact WithinArt artifact_lawful;

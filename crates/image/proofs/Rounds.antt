@@ -75,7 +75,7 @@ longest u h =
 pub round_trip : RoundTrip
 round_trip =
     record {
-      read-written = whole_back image WithinUnits image_lawful;
+      read_written = whole_back image WithinUnits image_lawful;
       written_read = λ bs u e. (whole_only image WithinUnits image_lawful bs u e).0;
       within = λ bs u e. (whole_only image WithinUnits image_lawful bs u e).1;
       one_writing = one_writing image WithinUnits image_lawful;

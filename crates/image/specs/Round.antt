@@ -37,7 +37,7 @@ two_bytes =
 
 -- reading what was written gives the units, writing what was read gives the bytes, so that each image has one writing; none is longer than 12,630 bytes; and two examples
 pub record RoundTrip : Type 0 where
-  pub read-written : (u : Units) → WithinUnits u → read (image_bytes u) ≡ Some u
+  pub read_written : (u : Units) → WithinUnits u → read (image_bytes u) ≡ Some u
   pub written_read : (bs : List ℕ) (u : Units) → read bs ≡ Some u → image_bytes u ≡ bs
   pub within : (bs : List ℕ) (u : Units) → read bs ≡ Some u → WithinUnits u
   pub one_writing : (u v : Units) → WithinUnits u → WithinUnits v → image_bytes u ≡ image_bytes v → u ≡ v

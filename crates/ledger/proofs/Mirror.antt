@@ -120,7 +120,7 @@ module _ (v : View) (es : List Entry) (h : Holds v es) (q : List ℕ) where
     where
       by : (o : Option Art) → row_of es q ≡ o → artifact_in (option_map artifact_bytes (row_of es q)) ≡ row_of es q
       by None e = ap (λ x. artifact_in (option_map artifact_bytes x)) e ∙ sym e
-      by (Some a) e = ap (λ x. artifact_in (option_map artifact_bytes x)) e ∙ round.read-written a (h.within q a e) ∙ sym e
+      by (Some a) e = ap (λ x. artifact_in (option_map artifact_bytes x)) e ∙ round.read_written a (h.within q a e) ∙ sym e
 
   pub same_room : (limit rows : ℕ) (a : Art) → (stored limit rows).room v q a ≡ (ledger limit rows).room es q a
   same_room limit rows a = λ i. put_number limit rows (one i) (h.number i) (length (artifact_bytes a))

@@ -60,7 +60,7 @@ module _ (round : RoundTrip) where
   stored_back v q a p w = by (bytes_eq q p)
     where
       by : (b : Bool) → artifact_in (cond b (Some (artifact_bytes a)) (v.at p)) ≡ cond b (Some a) (artifact_in (v.at p))
-      by true = round.read-written a w
+      by true = round.read_written a w
       by false = refl
 
   stored-gone : (v : View) (q p : List ℕ) → artifact_in (cond (bytes_eq q p) None (v.at p)) ≡ cond (bytes_eq q p) None (artifact_in (v.at p))

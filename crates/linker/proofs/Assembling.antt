@@ -15,7 +15,7 @@ use Rattle.project.specs.Checked.{names}
 use Rattle.ledger.specs.Fresh.{Made, in_order}
 use Rattle.ledger.specs.Linking.{Plain, plain, place_of, target_place, resolved, targets, units_of, Linking, broken, whole, lacking, link_by, tested_from, linking}
 use Rattle.linker.specs.Place.{named, named_by, goal, resolved_by}
-use Rattle.linker.specs.declared.assemble.Missing.{Missing}
+use Rattle.linker.specs.declared.assembly.Missing.{Missing}
 use Rattle.linker.specs.Assembled.{entries_of, targets_of, Added}
 use Rattle.linker.proofs.Adding.{never}
 

@@ -1,7 +1,7 @@
 // Linking: the products of a build put together as an image, each reference resolved by the present imports of its unit.
 #![tactic(auto)]
 
-pub mod assemble;
-pub mod resolve;
+pub mod assembly;
+pub mod resolution;
 
-pub use assemble::{Missing, assemble};
+pub use assembly::{Missing, assemble};

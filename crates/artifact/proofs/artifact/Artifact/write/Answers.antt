@@ -51,4 +51,4 @@ pub returns : goal.returns
 returns c =
     let a = c.args.self.now in
     let e : held c.append_product.new.out ≡ artifact_bytes (art a) = joined (art a) a.count (imported c.imports.result.now) (held c.clear.new.self) (held c.append_long.new.out) (held c.put_byte.new.out) (held c.append_imports.new.out) (held c.append_product.new.out) c.clear.ensures (count_is a) c.imports.ensures (short_fits (art a) (is_short a)) (c.append_long.ensures (lit< tt)) c.put_byte.ensures c.append_imports.ensures c.append_product.ensures in
-    record { bytes = e; back = λ h. ap read e ∙ round_trip.read-written (art a) h }
+    record { bytes = e; back = λ h. ap read e ∙ round_trip.read_written (art a) h }

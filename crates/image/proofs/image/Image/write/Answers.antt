@@ -23,5 +23,5 @@ returns c =
     record {
       number = fitting (length bs) (length buffer) h;
       written = p;
-      back = λ w. ap read ((λ i. take (p.0 i) (p.1 i)) ∙ take_at bs (drop (length bs) buffer) (length bs) refl) ∙ round_trip.read-written u w;
+      back = λ w. ap read ((λ i. take (p.0 i) (p.1 i)) ∙ take_at bs (drop (length bs) buffer) (length bs) refl) ∙ round_trip.read_written u w;
     }

@@ -10,7 +10,7 @@ ghost use Rattle.ledger.specs.Linking.{plain, lacking, linking};
 ghost use Rattle.building.specs.Finish.{done_list};
 ghost use Rattle.linker.specs.Assembled.{linked_as, entries_of, targets_of, Added};
 
-use crate::resolve::resolve;
+use crate::resolution::resolve;
 use bounded::Bounded;
 use building::Done;
 use image::{Image, Target};

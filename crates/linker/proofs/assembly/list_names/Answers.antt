@@ -8,7 +8,7 @@ use Rattle.project.specs.Checked.{names}
 use Rattle.project.proofs.Listed.{grown}
 use Rattle.ledger.specs.Fresh.{in_order}
 use Rattle.linker.proofs.Listing.{names_more, few_names}
-use Rattle.linker.proofs.assemble.list_names.Goals as goal
+use Rattle.linker.proofs.assembly.list_names.Goals as goal
 
 pub loop-p-preserved : goal.loop-p-preserved
 loop-p-preserved c =

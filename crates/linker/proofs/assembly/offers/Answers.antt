@@ -2,7 +2,7 @@ use Rattle.std.proofs.Common.{◌≡◌, length, ap, ◌∙◌}
 use Rattle.product.specs.Parts.{parts}
 use Rattle.building.specs.Finish.{done_list}
 use Rattle.linker.proofs.Listing.{offered, offered_none}
-use Rattle.linker.proofs.assemble.offers.Goals as goal
+use Rattle.linker.proofs.assembly.offers.Goals as goal
 
 pub returns-in-Some : goal.returns-in-Some
 returns-in-Some c = c.len.ensures ∙ ap length (offered (done_list c.args.done.now) c.args.i (parts c.in-Some.product.now) c.in-Some.ensures)

@@ -6,7 +6,7 @@ use Rattle.building.specs.Finish.{done_list}
 use Rattle.linker.specs.Assembled.{entries_of}
 use Rattle.linker.proofs.Listing.{absent, there}
 use Rattle.linker.proofs.Resolved.{get_d_any}
-use Rattle.linker.proofs.assemble.first_lacking.Goals as goal
+use Rattle.linker.proofs.assembly.first_lacking.Goals as goal
 
 none : Target
 none = record { unit = 0; entry = 0 }

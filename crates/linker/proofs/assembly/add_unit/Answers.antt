@@ -14,7 +14,7 @@ use Rattle.building.specs.Finish.{done_list}
 use Rattle.linker.specs.Assembled.{entries_of, targets_of}
 use Rattle.linker.proofs.Adding.{one_of, never, targets_are, with_all}
 use Rattle.linker.proofs.Listing.{few_done}
-use Rattle.linker.proofs.assemble.add_unit.Goals as goal
+use Rattle.linker.proofs.assembly.add_unit.Goals as goal
 
 pub resolve-requires : goal.resolve-requires
 resolve-requires c = (

@@ -4,7 +4,7 @@ use Rattle.project.specs.Members.{members}
 use Rattle.ledger.specs.Fresh.{in_order}
 use Rattle.building.specs.Finish.{done_list}
 use Rattle.linker.proofs.Assembling.{SoFar}
-use Rattle.linker.proofs.assemble.assemble.Given as goal
+use Rattle.linker.proofs.assembly.assemble.Given as goal
 
 abbrev pub invariant-loop-i : goal.invariant-loop-i
 invariant-loop-i l =

@@ -5,7 +5,7 @@ use Rattle.product.specs.declared.row.Reference.{Reference}
 use Rattle.image.specs.declared.target.Target.{Target}
 use Rattle.project.proofs.Listed.{grown}
 use Rattle.linker.specs.Place.{resolved_by}
-use Rattle.linker.proofs.resolve.resolve.Goals as goal
+use Rattle.linker.proofs.resolution.resolve.Goals as goal
 
 pub loop-r-preserved : goal.loop-r-preserved
 loop-r-preserved c =

@@ -6,7 +6,7 @@ use Rattle.ledger.specs.Fresh.{in_order}
 use Rattle.building.specs.Finish.{done_list}
 use Rattle.linker.specs.Assembled.{linked_as}
 use Rattle.linker.proofs.Assembling.{turned, ends}
-use Rattle.linker.proofs.assemble.assemble.Goals as goal
+use Rattle.linker.proofs.assembly.assemble.Goals as goal
 
 pub returns-in_err-add_unit : goal.returns-in_err-add_unit
 returns-in_err-add_unit c = λ a b few.
