@@ -2,7 +2,7 @@
 ghost use Rattle.std.specs.Prelude.{◌≡◌, ◌<◌, map};
 ghost use Rattle.product.specs.Parts.{rows, parts, no_parts};
 ghost use Rattle.scope.specs.Uses.{outside};
-ghost use Rattle.emission.specs.Wrote.{done, then};
+ghost use Rattle.emission.specs.Wrote.{done};
 ghost use Rattle.emission.specs.Emitted.{function_of, functions, row_of, rows_of};
 
 use crate::emit::emit;

@@ -1,7 +1,7 @@
 // What is written behind a product, if there is room.
 ghost use Rattle.std.specs.Prelude.{◌≡◌};
 ghost use Rattle.product.specs.Parts.{parts};
-ghost use Rattle.emission.specs.Wrote.{done, adding, referring, entering, showing_row, four, opcode, pushing, calling};
+ghost use Rattle.emission.specs.Wrote.{done, adding, referring, entering, showing_row, opcode, pushing, calling};
 
 use product::{Product, Reference, Row};
 use tokens::Operator;

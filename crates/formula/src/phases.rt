@@ -3,11 +3,11 @@ ghost use Rattle.std.specs.Prelude.{◌≡◌, map};
 ghost use Rattle.product.specs.Parts.{rows, parts, no_parts};
 ghost use Rattle.translator.specs.Owed.{shown};
 ghost use Rattle.scope.specs.Names.{misnamed};
-ghost use Rattle.scope.specs.Uses.{outside, misused};
+ghost use Rattle.scope.specs.Uses.{outside};
 ghost use Rattle.values.specs.Solved.{solved};
 ghost use Rattle.emission.specs.Wrote.{then};
 ghost use Rattle.emission.specs.Emitted.{functions, rows_of};
-ghost use Rattle.formula.specs.Language.{written, with_values, with_uses, with_names};
+ghost use Rattle.formula.specs.Language.{written, with_values, with_names};
 
 use bounded::Bounded;
 use emission::{emit_functions, show_rows};

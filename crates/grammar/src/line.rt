@@ -1,7 +1,7 @@
 // What a line says: nothing, one declaration, or that it is wrong.
 ghost use Rattle.std.specs.Prelude.{◌≡◌, ◌<◌, false};
 ghost use Rattle.std.specs.Str.{bytes_eq};
-ghost use Rattle.grammar.specs.Line.{name_of, keyword, equates, opens, formless, open_behind, any_formless, deep, constant, all_constant, at_end, whole, equated, naming, declaring, judged, is_formula, opening, said};
+ghost use Rattle.grammar.specs.Line.{name_of, keyword, equates, opens, formless, open_behind, any_formless, deep, constant, all_constant, whole, equated, naming, declaring, opening, said};
 
 use crate::expression::check;
 use crate::verdict::Verdict;

@@ -1,5 +1,5 @@
 // The declarations of a unit, line by line.
-ghost use Rattle.std.specs.Prelude.{◌≡◌, ◌+◌, ◌<◌, ◌≤◌, length};
+ghost use Rattle.std.specs.Prelude.{◌≡◌, ◌<◌, length};
 ghost use Rattle.bounded.specs.Held.{held};
 ghost use Rattle.grammar.specs.Walk.{ends, noted, declarations, told, body};
 

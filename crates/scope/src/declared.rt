@@ -1,5 +1,5 @@
 // Names that are declared.
-ghost use Rattle.std.specs.Prelude.{◌≡◌, ◌<◌, ◌≤◌, length};
+ghost use Rattle.std.specs.Prelude.{◌≡◌, ◌≤◌, length};
 ghost use Rattle.std.specs.Str.{bytes_eq};
 ghost use Rattle.scope.specs.Names.{reserved, declared, ill_named, misnamed, is_constant, entry_of};
 

@@ -1,5 +1,5 @@
 // Which constants need which.
-ghost use Rattle.std.specs.Prelude.{◌≡◌, ◌+◌, ◌*◌, ◌<◌, ◌≤◌, ◌++◌, length};
+ghost use Rattle.std.specs.Prelude.{◌≡◌, ◌+◌, ◌≤◌, ◌++◌, length};
 ghost use Rattle.bounded.specs.Held.{held};
 ghost use Rattle.values.specs.Needed.{constants, lines, names, mentions, needs_of, needs};
 
