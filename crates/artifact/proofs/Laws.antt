@@ -1,6 +1,6 @@
 -- Artifacts read back to exactly what was written, and are written again exactly as they were read.
 use Rattle.std.proofs.Common.{◌≡◌, ℕ, ◌<◌, ◌≤◌, Bool, true, ltb, leb, List, [], ◌∷◌, ◌++◌, length, Some, Option, refl, ap, ◌∙◌, subst, arith}
-use Rattle.std.specs.List.{AllByRecursion as All}
+use Rattle.std.specs.List.{AllByRecursion}
 use Rattle.std.proofs.ByRecursion.{All-weaker}
 use Rattle.std.proofs.lemmas.Bool.{lt-ltb, ltb-true, le-leb, leb-true, and_parts}
 use Rattle.product.specs.Parts.{Parts, SoundRow, WithinRows, SoundReference, Within}
@@ -12,20 +12,20 @@ use Rattle.artifact.specs.Art.{Art, WithinArt, source, imports, entries, referen
 
 -- a test of each element, as a fact of each
 module _ {X : Type 0} (t : X → Bool) (P : X → Type 0) (yes : (x : X) → P x → t x ≡ true) (fact : (x : X) → t x ≡ true → P x) where
-  every_yes : (xs : List X) → All P xs → every t xs ≡ true
+  every_yes : (xs : List X) → AllByRecursion P xs → every t xs ≡ true
   every_yes [] h = refl
   every_yes (x ∷ xs) h = simp (yes x h.0, every_yes xs h.1)
 
-  every_fact : (xs : List X) → every t xs ≡ true → All P xs
+  every_fact : (xs : List X) → every t xs ≡ true → AllByRecursion P xs
   every_fact [] h = tt
   every_fact (x ∷ xs) h = let p = and_parts (t x) (every t xs) h in (fact x p.0, every_fact xs p.1)
 
-all_both : {X : Type 0} (P Q R : X → Type 0) → ((x : X) → P x → Q x → R x) → (xs : List X) → All P xs → All Q xs → All R xs
+all_both : {X : Type 0} (P Q R : X → Type 0) → ((x : X) → P x → Q x → R x) → (xs : List X) → AllByRecursion P xs → AllByRecursion Q xs → AllByRecursion R xs
 all_both P Q R f [] h k = tt
 all_both P Q R f (x ∷ xs) h k = (f x h.0 k.0, all_both P Q R f xs h.1 k.1)
 
 abbrev BytesWithin : ℕ → List ℕ → Type 0
-BytesWithin n bs = (length bs ≤ n) × All (λ b. b < 256) bs
+BytesWithin n bs = (length bs ≤ n) × AllByRecursion (λ b. b < 256) bs
 
 source_lawful : Lawful source (BytesWithin 512)
 source_lawful = listed_lawful byte (λ b. b < 256) byte_lawful pair (λ n. n < 65536) pair_lawful 512 (λ n h. omega arith)
@@ -33,7 +33,7 @@ source_lawful = listed_lawful byte (λ b. b < 256) byte_lawful pair (λ n. n < 6
 pub interface_lawful : Lawful interface WithinRows
 interface_lawful = listed_lawful row SoundRow row_lawful byte (λ b. b < 256) byte_lawful 12 (λ n h. omega arith)
 
-imports_lawful : Lawful imports (λ is. (length is ≤ 4) × All WithinRows is)
+imports_lawful : Lawful imports (λ is. (length is ≤ 4) × AllByRecursion WithinRows is)
 imports_lawful = listed_lawful interface WithinRows interface_lawful byte (λ b. b < 256) byte_lawful 4 (λ n h. omega arith)
 
 pub code_lawful : Lawful code (BytesWithin 384)
@@ -41,19 +41,19 @@ code_lawful = listed_lawful byte (λ b. b < 256) byte_lawful pair (λ n. n < 655
 
 -- entries in code of at most 384 bytes
 abbrev EntriesWithin : ℕ → List ℕ → Type 0
-EntriesWithin n es = (length es ≤ 12) × All (λ e. e < n) es
+EntriesWithin n es = (length es ≤ 12) × AllByRecursion (λ e. e < n) es
 
 entries_lawful : (n : ℕ) → n ≤ 384 → Lawful (entries n) (EntriesWithin n)
 entries_lawful n small =
     lawful_as (entries n)
-    (λ es. (every (λ e. ltb e n) es ≡ true) × ((length es ≤ 12) × All (λ e. e < 65536) es)) (EntriesWithin n)
-    (tested_lawful (listed byte 12 pair) (λ es. (length es ≤ 12) × All (λ e. e < 65536) es) (listed_lawful pair (λ k. k < 65536) pair_lawful byte (λ b. b < 256) byte_lawful 12 (λ k h. omega arith)) (every (λ e. ltb e n)))
+    (λ es. (every (λ e. ltb e n) es ≡ true) × ((length es ≤ 12) × AllByRecursion (λ e. e < 65536) es)) (EntriesWithin n)
+    (tested_lawful (listed byte 12 pair) (λ es. (length es ≤ 12) × AllByRecursion (λ e. e < 65536) es) (listed_lawful pair (λ k. k < 65536) pair_lawful byte (λ b. b < 256) byte_lawful 12 (λ k h. omega arith)) (every (λ e. ltb e n)))
     (λ es h. (every_yes (λ e. ltb e n) (λ e. e < n) (λ e. lt-ltb e n) (λ e. ltb-true e n) es h.1, (h.0, All-weaker (λ e. e < n) (λ e. e < 65536) (λ e k. omega arith) es h.1)))
     (λ es h. (h.1.0, every_fact (λ e. ltb e n) (λ e. e < n) (λ e. lt-ltb e n) (λ e. ltb-true e n) es h.0))
 
 -- references of a unit with so many imports
 abbrev ReferencesWithin : ℕ → List Reference → Type 0
-ReferencesWithin n rs = (length rs ≤ 32) × All (SoundReference n) rs
+ReferencesWithin n rs = (length rs ≤ 32) × AllByRecursion (SoundReference n) rs
 
 references_lawful : (n : ℕ) → n ≤ 4 → Lawful (references n) (ReferencesWithin n)
 references_lawful n small =
@@ -62,8 +62,8 @@ references_lawful n small =
     let yes : (r : Reference) → r.position ≤ n → leb r.position n ≡ true = λ r. le-leb r.position n in
     let fact : (r : Reference) → leb r.position n ≡ true → r.position ≤ n = λ r. leb-true r.position n in
     lawful_as (references n)
-    (λ rs. (every (λ r. leb r.position n) rs ≡ true) × ((length rs ≤ 32) × All SmallReference rs)) (ReferencesWithin n)
-    (tested_lawful (listed byte 32 reference) (λ rs. (length rs ≤ 32) × All SmallReference rs) (listed_lawful reference SmallReference reference_lawful byte (λ b. b < 256) byte_lawful 32 (λ k h. omega arith)) (every (λ r. leb r.position n)))
+    (λ rs. (every (λ r. leb r.position n) rs ≡ true) × ((length rs ≤ 32) × AllByRecursion SmallReference rs)) (ReferencesWithin n)
+    (tested_lawful (listed byte 32 reference) (λ rs. (length rs ≤ 32) × AllByRecursion SmallReference rs) (listed_lawful reference SmallReference reference_lawful byte (λ b. b < 256) byte_lawful 32 (λ k h. omega arith)) (every (λ r. leb r.position n)))
     (λ rs h. (every_yes t P yes fact rs (All-weaker (SoundReference n) P (λ r s. s.0) rs h.1), (h.0, All-weaker (SoundReference n) SmallReference (λ r s. (let k : r.position ≤ n = s.0 in omega arith, s.1)) rs h.1)))
     (λ rs h. (h.1.0, all_both P SmallReference (SoundReference n) (λ r p s. (p, s.1)) rs (every_fact t P yes fact rs h.0) h.1.1))
 
@@ -113,7 +113,7 @@ abbrev artifact_1 : List ℕ → List ℕ → Option (Art × List ℕ)
 artifact_1 s cs = next (imports.get cs) (artifact_2 s)
 
 abbrev ImportsWithin : List (List Row) → Type 0
-ImportsWithin is = (length is ≤ 4) × All WithinRows is
+ImportsWithin is = (length is ≤ 4) × AllByRecursion WithinRows is
 
 artifact_back : (a : Art) → WithinArt a → (rest : List ℕ) → artifact.get (artifact.put a ++ rest) ≡ Some (a, rest)
 artifact_back a h rest =

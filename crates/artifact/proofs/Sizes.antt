@@ -2,7 +2,7 @@
 use Rattle.std.proofs.Common.{◌≡◌, ℕ, zero, suc, ◌+◌, ◌*◌, ◌<◌, ◌≤◌, List, [], ◌∷◌, ◌++◌, length, replicate, pos, sym, refl, ap, ◌∙◌, suc-mul, zero-mul, arith, lit<, length-append}
 use lib.ListN.{length-replicate}
 use mir.Facts.{sfits_lit}
-use Rattle.std.specs.List.{AllByRecursion as All}
+use Rattle.std.specs.List.{AllByRecursion}
 use Rattle.std.proofs.ByRecursion.{All-weaker}
 use Rattle.product.specs.Parts.{SoundRow, WithinRows, SoundReference}
 use Rattle.product.specs.declared.row.Row.{Row}
@@ -15,7 +15,7 @@ use Rattle.artifact.specs.Art.{Art, WithinArt, source, imports, entries, referen
 pub record Short (a : Art) : Type 0 where
   pub few_source : length a.source ≤ 512
   pub few_imports : length a.imports ≤ 4
-  pub imports : All (λ rs. length rs ≤ 12) a.imports
+  pub imports : AllByRecursion (λ rs. length rs ≤ 12) a.imports
   pub few_rows : length a.product.interface ≤ 12
   pub few_code : length a.product.code ≤ 384
   pub few_entries : length a.product.entries ≤ 12
@@ -63,7 +63,7 @@ within_short a h =
       few_references = h.product.few_references;
     }
 
-all_same : {X : Type 0} (P : X → Type 0) (x : X) → P x → (n : ℕ) → All P (replicate n x)
+all_same : {X : Type 0} (P : X → Type 0) (x : X) → P x → (n : ℕ) → AllByRecursion P (replicate n x)
 all_same P x h zero = tt
 all_same P x h (suc n) = (h, all_same P x h n)
 

@@ -1,6 +1,6 @@
 -- Artifacts as parts, and their one writing.
 use Rattle.std.specs.Prelude.{ℕ, ◌<◌, ◌≤◌, List, [], ◌∷◌, ◌++◌, map, length, take, Some, None, vec_items, Option, nat_le, nat_lt}
-use Rattle.std.specs.List.{AllByRecursion as All}
+use Rattle.std.specs.List.{AllByRecursion}
 use Rattle.bounded.specs.Held.{held}
 use Rattle.product.specs.Parts.{Parts, parts, no_parts, rows, Within, WithinRows}
 use Rattle.product.specs.declared.row.Row.{Row}
@@ -79,7 +79,7 @@ imports_read (Some n) is bs = Some (imported (take n is), bs)
 -- an artifact within its limits
 pub record WithinArt (a : Art) : Type 0 where
   pub few_source : length a.source ≤ 512
-  pub source : All (λ b. b < 256) a.source
+  pub source : AllByRecursion (λ b. b < 256) a.source
   pub few_imports : length a.imports ≤ 4
-  pub imports : All WithinRows a.imports
+  pub imports : AllByRecursion WithinRows a.imports
   pub product : Within (length a.imports) a.product

@@ -1,7 +1,7 @@
 -- Formats that read back to exactly what was written, and write again exactly what was read.
 use Rattle.std.proofs.Common.{◌≡◌, ℕ, zero, suc, ◌+◌, ◌*◌, ◌/◌, ◌%◌, ◌^◌, ◌<◌, ◌≤◌, Bool, true, false, cond, eqb, ltb, leb, List, [], ◌∷◌, ◌++◌, length, take, drop, ℤ, Some, None, Option, sym, refl, ap, ◌∙◌, subst, append_assoc, append-nil, arith, take-append-drop, w32, SFits, to_z, of_z}
 use mir.Facts.{sfits_to_z, Fits-of_z}
-use Rattle.std.specs.List.{AllByRecursion as All}
+use Rattle.std.specs.List.{AllByRecursion}
 use Rattle.std.proofs.lemmas.Bool.{lt-ltb, ltb-true, le-leb, leb-true, eqb-true}
 use Rattle.std.proofs.lemmas.List.{take_at, drop_at}
 use Rattle.std.proofs.lemmas.Int.{to_z-of_z, of_z-to_z}
@@ -210,16 +210,16 @@ module _ {X : Type 0} (f : Format X) (P : X → Type 0) (law : Lawful f P) where
   abbrev more : ℕ → X → List ℕ → Option (List X × List ℕ)
   more n x cs = next (many n f.get cs) (λ xs ds. Some (x ∷ xs, ds))
 
-  pub many_back : (xs : List X) → All P xs → (rest : List ℕ) → many (length xs) f.get (each f.put xs ++ rest) ≡ Some (xs, rest)
+  pub many_back : (xs : List X) → AllByRecursion P xs → (rest : List ℕ) → many (length xs) f.get (each f.put xs ++ rest) ≡ Some (xs, rest)
   many_back [] h rest = refl
   many_back (x ∷ xs) h rest =
       seq_back f P law (more (length xs)) x h.0 (each f.put xs) rest
       ∙ ap (λ o. next o (λ ys ds. Some (x ∷ ys, ds))) (many_back xs h.1 rest)
 
-  pub many_only : (n : ℕ) (bs : List ℕ) (xs : List X) (rest : List ℕ) → many n f.get bs ≡ Some (xs, rest) → (bs ≡ each f.put xs ++ rest) × All P xs × (length xs ≡ n)
+  pub many_only : (n : ℕ) (bs : List ℕ) (xs : List X) (rest : List ℕ) → many n f.get bs ≡ Some (xs, rest) → (bs ≡ each f.put xs ++ rest) × AllByRecursion P xs × (length xs ≡ n)
   many_only zero bs xs rest e =
       let none : [] ≡ xs = some_first [] xs bs rest e in
-      (some_rest [] xs bs rest e ∙ ap (λ ys. each f.put ys ++ rest) none, subst (All P) none tt, sym (ap length none))
+      (some_rest [] xs bs rest e ∙ ap (λ ys. each f.put ys ++ rest) none, subst (AllByRecursion P) none tt, sym (ap length none))
   many_only (suc n) bs xs rest e =
       let a = seq_only f P law (more n) bs xs rest e in
       let b = next_some (many n f.get a.1) (λ ys ds. Some (a.0 ∷ ys, ds)) xs rest a.4 in
@@ -227,14 +227,14 @@ module _ {X : Type 0} (f : Format X) (P : X → Type 0) (law : Lawful f P) where
       let same : a.0 ∷ ys ≡ xs = some_first (a.0 ∷ ys) xs b.1 rest b.3 in
       let behind : b.1 ≡ rest = some_rest (a.0 ∷ ys) xs b.1 rest b.3 in
       let c = many_only n a.1 ys rest (b.2 ∙ ap (λ ds. Some (ys, ds)) behind) in
-      (glue bs (f.put a.0) a.1 (each f.put ys) rest a.2 c.0 ∙ ap (λ zs. each f.put zs ++ rest) same, subst (All P) same (a.3, c.1), sym (ap length same) ∙ ap suc c.2)
+      (glue bs (f.put a.0) a.1 (each f.put ys) rest a.2 c.0 ∙ ap (λ zs. each f.put zs ++ rest) same, subst (AllByRecursion P) same (a.3, c.1), sym (ap length same) ∙ ap suc c.2)
 
   -- a section
   module _ (count : Format ℕ) (C : ℕ → Type 0) (counts : Lawful count C) (limit : ℕ) (small : (n : ℕ) → n ≤ limit → C n) where
     abbrev behind_count : ℕ → List ℕ → Option (List X × List ℕ)
     behind_count n cs = many_within limit n f.get cs
 
-    listed_back : (xs : List X) → (length xs ≤ limit) × All P xs → (rest : List ℕ) → (listed count limit f).get ((listed count limit f).put xs ++ rest) ≡ Some (xs, rest)
+    listed_back : (xs : List X) → (length xs ≤ limit) × AllByRecursion P xs → (rest : List ℕ) → (listed count limit f).get ((listed count limit f).put xs ++ rest) ≡ Some (xs, rest)
     listed_back xs h rest =
         seq_back count C counts behind_count (length xs) (small (length xs) h.0) (each f.put xs) rest
         ∙ ap (λ t. cond t (many (length xs) f.get (each f.put xs ++ rest)) None) (le-leb (length xs) limit h.0)
@@ -244,14 +244,14 @@ module _ {X : Type 0} (f : Format X) (P : X → Type 0) (law : Lawful f P) where
     within_some true o xs rest e = (refl, e)
     within_some false o xs rest e = let z : ◌≡◌ {A = ℕ} 0 1 = cc in absurd (omega arith)
 
-    listed_only : (bs : List ℕ) (xs : List X) (rest : List ℕ) → (listed count limit f).get bs ≡ Some (xs, rest) → (bs ≡ (listed count limit f).put xs ++ rest) × ((length xs ≤ limit) × All P xs)
+    listed_only : (bs : List ℕ) (xs : List X) (rest : List ℕ) → (listed count limit f).get bs ≡ Some (xs, rest) → (bs ≡ (listed count limit f).put xs ++ rest) × ((length xs ≤ limit) × AllByRecursion P xs)
     listed_only bs xs rest e =
         let a = seq_only count C counts behind_count bs xs rest e in
         let b = within_some (leb a.0 limit) (many a.0 f.get a.1) xs rest a.4 in
         let c = many_only a.0 a.1 xs rest b.1 in
         (glue bs (count.put (length xs)) a.1 (each f.put xs) rest (a.2 ∙ ap (λ n. count.put n ++ a.1) (sym c.2)) c.0, (subst (λ n. n ≤ limit) (sym c.2) (leb-true a.0 limit b.0), c.1))
 
-    pub listed_lawful : Lawful (listed count limit f) (λ xs. (length xs ≤ limit) × All P xs)
+    pub listed_lawful : Lawful (listed count limit f) (λ xs. (length xs ≤ limit) × AllByRecursion P xs)
     listed_lawful = record { back = listed_back; only = listed_only }
 
   -- only what passes a test

@@ -1,6 +1,6 @@
 -- How many bytes elements and sections have.
 use Rattle.std.proofs.Common.{◌≡◌, ℕ, suc, ◌+◌, ◌*◌, ◌≤◌, List, [], ◌∷◌, length, sym, refl, ap, ◌∙◌, suc-mul, zero-mul, arith, length-append}
-use Rattle.std.specs.List.{AllByRecursion as All}
+use Rattle.std.specs.List.{AllByRecursion}
 use Rattle.product.specs.declared.row.Row.{Row}
 use Rattle.codec.specs.Format.{each, byte, row, interface, code}
 use Rattle.codec.proofs.Laws.{name-length}
@@ -10,7 +10,7 @@ each-length put w h [] = sym (zero-mul w)
 each-length put w h (x ∷ xs) =
     length-append (put x) (each put xs) ∙ (λ i. h x i + each-length put w h xs i) ∙ sym (suc-mul (length xs) w ∙ omega arith)
 
-pub each_at_most : {X : Type 0} (put : X → List ℕ) (w : ℕ) (P : X → Type 0) → ((x : X) → P x → length (put x) ≤ w) → (xs : List X) → All P xs → length (each put xs) ≤ length xs * w
+pub each_at_most : {X : Type 0} (put : X → List ℕ) (w : ℕ) (P : X → Type 0) → ((x : X) → P x → length (put x) ≤ w) → (xs : List X) → AllByRecursion P xs → length (each put xs) ≤ length xs * w
 each_at_most put w P h [] all = omega (arith, zero-mul w)
 each_at_most put w P h (x ∷ xs) all =
     omega (arith, length-append (put x) (each put xs), h x all.0, each_at_most put w P h xs all.1, suc-mul (length xs) w)

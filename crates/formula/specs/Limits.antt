@@ -3,7 +3,7 @@ use Rattle.std.specs.Prelude.{◌≡◌, ℕ, suc, ◌+◌, ◌-◌, ◌/◌, �
 use Rattle.std.proofs.Common.{sym, subst, mod-lt, arith, lit<, lit≤, of_z, to_z}
 use Rattle.std.specs.Int.{w32}
 use Rattle.std.specs.Option.{unwrap_or}
-use Rattle.std.specs.List.{AllByRecursion as All}
+use Rattle.std.specs.List.{AllByRecursion}
 use Rattle.std.specs.Str.{bytes_eq}
 use Rattle.std.proofs.ByRecursion.{All-append, All-push, All-weaker}
 use Rattle.std.proofs.lemmas.List.{length-append}
@@ -45,11 +45,11 @@ use Rattle.std.specs.Ordering.{nat_cmp}
 record Sound (n : ℕ) (p : Parts) : Type 0 where
   interface : WithinRows p.interface
   few_code : length p.code ≤ 384
-  code : All (λ b. b < 256) p.code
+  code : AllByRecursion (λ b. b < 256) p.code
   few_entries : length p.entries ≤ 12
-  entries : All (λ e. e ≤ length p.code) p.entries
+  entries : AllByRecursion (λ e. e ≤ length p.code) p.entries
   few_references : length p.references ≤ 32
-  references : All (SoundReference n) p.references
+  references : AllByRecursion (SoundReference n) p.references
 
 either_way : {X : Type 0} (P : X → Type 0) (t : Bool) (x y : X) → P x → P y → P (cond t x y)
 either_way P true x y p q = p
@@ -68,7 +68,7 @@ sound_within n p w =
     }
 
 module _ (n : ℕ) where
-  by_adding : (bs : List ℕ) (p : Parts) → All (λ b. b < 256) bs → Sound n p → (t : Bool) → nat_le (length p.code + length bs) 384 ≡ t
+  by_adding : (bs : List ℕ) (p : Parts) → AllByRecursion (λ b. b < 256) bs → Sound n p → (t : Bool) → nat_le (length p.code + length bs) 384 ≡ t
       → Holds (Sound n) (done t (record { interface = p.interface; code = p.code ++ bs; entries = p.entries; references = p.references }))
   by_adding bs p b s true e =
       let l = leb-true (length p.code + length bs) 384 e in
@@ -84,7 +84,7 @@ module _ (n : ℕ) where
       }
   by_adding bs p b s false e = tt
 
-  adds : (bs : List ℕ) (p : Parts) → All (λ b. b < 256) bs → Sound n p → Holds (Sound n) (adding bs p)
+  adds : (bs : List ℕ) (p : Parts) → AllByRecursion (λ b. b < 256) bs → Sound n p → Holds (Sound n) (adding bs p)
   adds bs p b s = by_adding bs p b s (nat_le (length p.code + length bs) 384) refl
 
   by_ending : (p : Parts) → Sound n p → (t : Bool) → nat_le (length p.code + 1) 384 ≡ t → Holds (Within n) (done t (record { interface = p.interface; code = p.code ++ 63 ∷ []; entries = p.entries; references = p.references }))
@@ -250,13 +250,13 @@ small_fits (negsuc m) e = let h = ltb-true m 2147483648 e in record { sfits = om
 zero_fits : FitsSigned w32 (pos 0)
 zero_fits = record { sfits = lit< tt }
 
-known_fits : (name : List ℕ) (ks : List Known) → All Fit ks → FitsSigned w32 (unwrap_or (known name ks) (pos 0))
+known_fits : (name : List ℕ) (ks : List Known) → AllByRecursion Fit ks → FitsSigned w32 (unwrap_or (known name ks) (pos 0))
 known_fits name [] h = zero_fits
 known_fits name (k ∷ ks) h =
     either_way (λ v. FitsSigned w32 (unwrap_or v (pos 0))) (bytes_eq k.name.bytes name) (Some (to_z w32 (of_z w32 k.value))) (known name ks)
     (subst (FitsSigned w32) (sym (to_z-of_z w32 k.value h.0)) h.0) (known_fits name ks h.1)
 
-module _ (n : ℕ) (ks : List Known) (fits : All Fit ks) where
+module _ (n : ℕ) (ks : List Known) (fits : AllByRecursion Fit ks) where
   by_kind : (k : ℕ) (d : Declaration) → k < 1000 → Low d → (f : Bool)
       → SoundRow (cond f (record { name = d.name; kind = 2; value = pos k; line = d.line }) (record { name = d.name; kind = 1; value = unwrap_or (known d.name.bytes ks) (pos 0); line = d.line }))
   by_kind k d h l true = (lit< tt, (record { sfits = omega arith }, l))
@@ -266,44 +266,44 @@ module _ (n : ℕ) (ks : List Known) (fits : All Fit ks) where
   more k true r h = omega arith
   more k false r h = omega arith
 
-  rows-within : (ds : List Declaration) (k : ℕ) (p : Parts) → k + length ds ≤ 100 → All Low ds → Within n p → Holds (Within n) (rows_of ks k p ds)
+  rows-within : (ds : List Declaration) (k : ℕ) (p : Parts) → k + length ds ≤ 100 → AllByRecursion Low ds → Within n p → Holds (Within n) (rows_of ks k p ds)
   rows-within [] k p h l w = w
   rows-within (d ∷ ds) k p h l w =
       then-holds (Within n) (Within n) (showing_row (row_of ks k d) p) (λ q. rows_of ks (cond d.function (k + 1) k) q ds) (shows n (row_of ks k d) p (by_kind k d (omega arith) l.0 d.function) w)
       (λ q v. rows-within ds (cond d.function (k + 1) k) q (more k d.function (length ds) h) l.1 v)
 
 -- what is learnt fits
-by_small : (ks : List Known) (d : Declaration) (z : ℤ) → All Fit ks → (t : Bool) → small z ≡ t → GoesWell (All Fit) (learnt ks d (cond t (Some z) None))
+by_small : (ks : List Known) (d : Declaration) (z : ℤ) → AllByRecursion Fit ks → (t : Bool) → small z ≡ t → GoesWell (AllByRecursion Fit) (learnt ks d (cond t (Some z) None))
 by_small ks d z h true e = All-push Fit ks (record { name = d.name; value = z }) h (small_fits z e)
 by_small ks d z h false e = tt
 
-by_result : (ks : List Known) (d : Declaration) (x : Option (ℤ × List Token)) → All Fit ks → GoesWell (All Fit) (learnt ks d (result x))
+by_result : (ks : List Known) (d : Declaration) (x : Option (ℤ × List Token)) → AllByRecursion Fit ks → GoesWell (AllByRecursion Fit) (learnt ks d (result x))
 by_result ks d None h = tt
 by_result ks d (Some p) h = by_small ks d p.0 h (small p.0) refl
 
-behind_fits : (all : List Token) (o : Outside) (ks : List Known) (d : Option Declaration) → All Fit ks → GoesWell (All Fit) (behind all o ks d)
+behind_fits : (all : List Token) (o : Outside) (ks : List Known) (d : Option Declaration) → AllByRecursion Fit ks → GoesWell (AllByRecursion Fit) (behind all o ks d)
 behind_fits all o ks None h = h
 behind_fits all o ks (Some d) h = by_result ks d (expression (evaluating ks o) 9 (body all d)) h
 
-valued_fits : (all : List Token) (o : Outside) (cs : List Declaration) (ps : List ℕ) (ks : List Known) → All Fit ks → GoesWell (All Fit) (valued all o cs ks ps)
+valued_fits : (all : List Token) (o : Outside) (cs : List Declaration) (ps : List ℕ) (ks : List Known) → AllByRecursion Fit ks → GoesWell (AllByRecursion Fit) (valued all o cs ks ps)
 valued_fits all o cs [] ks h = h
-valued_fits all o cs (p ∷ ps) ks h = onward-holds (All Fit) (All Fit) (behind all o ks (nth cs p)) (λ m. valued all o cs m ps) (behind_fits all o ks (nth cs p) h) (λ m g. valued_fits all o cs ps m g)
+valued_fits all o cs (p ∷ ps) ks h = onward-holds (AllByRecursion Fit) (AllByRecursion Fit) (behind all o ks (nth cs p)) (λ m. valued all o cs m ps) (behind_fits all o ks (nth cs p) h) (λ m g. valued_fits all o cs ps m g)
 
-settled_fits : (all : List Token) (o : Outside) (cs : List Declaration) (out : Order) → GoesWell (All Fit) (settled all o cs out)
+settled_fits : (all : List Token) (o : Outside) (cs : List Declaration) (out : Order) → GoesWell (AllByRecursion Fit) (settled all o cs out)
 settled_fits all o cs (in_order ps) = valued_fits all o cs ps [] tt
 settled_fits all o cs (stuck ps i) = tt
 
 -- the lines of declarations
-noted_low : (line start end : ℕ) (v : Verdict) (ds : List Declaration) → line < 65536 → All Low ds → GoesWell (All Low) (noted line start end v ds)
+noted_low : (line start end : ℕ) (v : Verdict) (ds : List Declaration) → line < 65536 → AllByRecursion Low ds → GoesWell (AllByRecursion Low) (noted line start end v ds)
 noted_low line start end Nothing ds h l = l
 noted_low line start end (Wrong code) ds h l = tt
 noted_low line start end (Declares f m) ds h l = All-push Low ds (record { function = f; name = m; line = line; start = start + 3; end = end }) l h
 
-walk_low : (all ts : List Token) (start i line : ℕ) (ds : List Declaration) → line + length ts ≤ 65535 → All Low ds → GoesWell (All Low) (walk all start i line ds ts)
+walk_low : (all ts : List Token) (start i line : ℕ) (ds : List Declaration) → line + length ts ≤ 65535 → AllByRecursion Low ds → GoesWell (AllByRecursion Low) (walk all start i line ds ts)
 walk_low all [] start i line ds h l = l
 walk_low all (t ∷ ts) start i line ds h l =
-    either_way (GoesWell (All Low)) (ends t) (onward (noted line start i (said line (slice_range all start i)) ds) (λ m. walk all (i + 1) (i + 1) (line + 1) m ts)) (walk all start (i + 1) line ds ts)
-    (onward-holds (All Low) (All Low) (noted line start i (said line (slice_range all start i)) ds) (λ m. walk all (i + 1) (i + 1) (line + 1) m ts)
+    either_way (GoesWell (AllByRecursion Low)) (ends t) (onward (noted line start i (said line (slice_range all start i)) ds) (λ m. walk all (i + 1) (i + 1) (line + 1) m ts)) (walk all start (i + 1) line ds ts)
+    (onward-holds (AllByRecursion Low) (AllByRecursion Low) (noted line start i (said line (slice_range all start i)) ds) (λ m. walk all (i + 1) (i + 1) (line + 1) m ts)
     (noted_low line start i (said line (slice_range all start i)) ds (omega arith) l) (λ m g. walk_low all ts (i + 1) (i + 1) (line + 1) m (omega arith) g))
     (walk_low all ts start (i + 1) line ds (omega arith) l)
 
@@ -315,31 +315,31 @@ written-kept n ts o None h = tt
 written-kept n ts o (Some p) h = h
 
 module _ (ts : List Token) (imports : List (List Row)) where
-  values_kept : (ds : List Declaration) (x : Result (List Known) Fault) → length ds ≤ 12 → All Low ds → GoesWell (All Fit) x → Kept (length imports) (with_values ts (outside imports) ds x)
+  values_kept : (ds : List Declaration) (x : Result (List Known) Fault) → length ds ≤ 12 → AllByRecursion Low ds → GoesWell (AllByRecursion Fit) x → Kept (length imports) (with_values ts (outside imports) ds x)
   values_kept ds (Err f) h l g = tt
   values_kept ds (Ok ks) h l g =
       written-kept (length imports) ts (outside imports) (then (rows_of ks 0 no_parts ds) (λ p. functions ds ks (outside imports) ts p ds))
       (then-holds (Within (length imports)) (Within (length imports)) (rows_of ks 0 no_parts ds) (λ p. functions ds ks (outside imports) ts p ds)
       (rows-within (length imports) ks g ds 0 no_parts (omega arith) l (empty_within (length imports))) (λ p w. functions-within imports ds ks ts ds p w))
 
-  by_few : (ds : List Declaration) (x : Result (List Known) Fault) → All Low ds → GoesWell (All Fit) x → (t : Bool) → nat_le (length ds) 12 ≡ t → Kept (length imports) (with_values ts (outside imports) ds (cond t x (Err (record { code = 9; line = 0 }))))
+  by_few : (ds : List Declaration) (x : Result (List Known) Fault) → AllByRecursion Low ds → GoesWell (AllByRecursion Fit) x → (t : Bool) → nat_le (length ds) 12 ≡ t → Kept (length imports) (with_values ts (outside imports) ds (cond t x (Err (record { code = 9; line = 0 }))))
   by_few ds x l g true e = values_kept ds x (leb-true (length ds) 12 e) l g
   by_few ds x l g false e = tt
 
-  solved-kept : (ds : List Declaration) → All Low ds → Kept (length imports) (with_values ts (outside imports) ds (solved ts (outside imports) ds))
+  solved-kept : (ds : List Declaration) → AllByRecursion Low ds → Kept (length imports) (with_values ts (outside imports) ds (solved ts (outside imports) ds))
   solved-kept ds l =
       let out = ordered nat_cmp (lines (constants ds)) (needs ts (constants ds) 0 (constants ds)) in
       by_few ds (settled ts (outside imports) (constants ds) out) l (settled_fits ts (outside imports) (constants ds) out) (nat_le (length ds) 12) refl
 
-  uses_kept : (ds : List Declaration) (x : Option Fault) → All Low ds → Kept (length imports) (with_uses ts (outside imports) ds x)
+  uses_kept : (ds : List Declaration) (x : Option Fault) → AllByRecursion Low ds → Kept (length imports) (with_uses ts (outside imports) ds x)
   uses_kept ds (Some f) l = tt
   uses_kept ds None l = solved-kept ds l
 
-  names-kept : (ds : List Declaration) (x : Option Fault) → All Low ds → Kept (length imports) (with_names ts (outside imports) ds x)
+  names-kept : (ds : List Declaration) (x : Option Fault) → AllByRecursion Low ds → Kept (length imports) (with_names ts (outside imports) ds x)
   names-kept ds (Some f) l = tt
   names-kept ds None l = uses_kept ds (misused ts ds (outside imports) ds) l
 
-  lines-kept : (x : Result (List Declaration) Fault) → GoesWell (All Low) x → Kept (length imports) (with_lines ts (outside imports) x)
+  lines-kept : (x : Result (List Declaration) Fault) → GoesWell (AllByRecursion Low) x → Kept (length imports) (with_lines ts (outside imports) x)
   lines-kept (Err f) g = tt
   lines-kept (Ok ds) g = names-kept ds (misnamed ds 0 ds) g
 

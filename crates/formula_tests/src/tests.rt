@@ -3,18 +3,21 @@ use formula::Formula;
 use names::Name;
 use product::{Interface, Product, Row};
 use std::alloc::Global;
-use std::process::Abort;
 use std::test::Fail;
 use translator::Translator;
 
+// Fails a test where the condition does not hold.
+fn check(holds: bool, what: &str) -> Result<(), Fail> {
+    if holds { Ok(()) } else { Err(Fail::new(what)) }
+}
+
 // The source has the fault.
-fn faults(rt: &impl Abort, heap: Global, source: &[u8], code: u8, line: u16) -> Result<(), Fail> {
+fn faults(heap: Global, source: &[u8], code: u8, line: u16) -> Result<(), Fail> {
     let none = Vec::new(heap);
-    faults_with(rt, heap, source, &none, code, line)
+    faults_with(heap, source, &none, code, line)
 }
 
 fn faults_with(
-    rt: &impl Abort,
     heap: Global,
     source: &[u8],
     imports: &Vec<Interface>,
@@ -24,33 +27,21 @@ fn faults_with(
     let mut translator = Formula::open(heap)?;
     let mut out = Product::open(heap)?;
     match translator.translate(source, imports.as_slice(), &mut out) {
-        Ok(_) => {
-            assert_eq!(rt; 0, code);
-            Ok(())
-        },
+        Ok(_) => { check(code == 0, "no fault") }
         Err(fault) => {
-            assert_eq!(rt; fault.code, code);
-            assert_eq!(rt; fault.line, line);
-            Ok(())
+            check(fault.code == code, "the fault's code")?;
+            check(fault.line == line, "the fault's line")
         }
     }
 }
 
 // The source gives so many rows, the last with the value, and the code.
-fn gives(
-    rt: &impl Abort,
-    heap: Global,
-    source: &[u8],
-    rows: usize,
-    value: i32,
-    code: &[u8],
-) -> Result<(), Fail> {
+fn gives(heap: Global, source: &[u8], rows: usize, value: i32, code: &[u8]) -> Result<(), Fail> {
     let none = Vec::new(heap);
-    gives_with(rt, heap, source, &none, rows, value, code)
+    gives_with(heap, source, &none, rows, value, code)
 }
 
 fn gives_with(
-    rt: &impl Abort,
     heap: Global,
     source: &[u8],
     imports: &Vec<Interface>,
@@ -62,15 +53,14 @@ fn gives_with(
     let mut out = Product::open(heap)?;
     match translator.translate(source, imports.as_slice(), &mut out) {
         Ok(_) => {
-            assert_eq!(rt; out.interface.rows().len(), rows);
-            assert_eq!(rt; last_value(out.interface.rows()), value);
-            assert!(rt; *out.code.as_slice() == *code);
-            Ok(())
+            check(out.interface.rows().len() == rows, "the number of rows")?;
+            check(
+                last_value(out.interface.rows()) == value,
+                "the last row's value",
+            )?;
+            check(*out.code.as_slice() == *code, "the code")
         }
-        Err(fault) => {
-            assert_eq!(rt; 0, fault.code);
-            Ok(())
-        },
+        Err(fault) => check(fault.code == 0, "a fault"),
     }
 }
 
@@ -118,52 +108,43 @@ fn one(heap: Global, name: &[u8], kind: u8, value: i32) -> Result<Interface, Fai
 #[test]
 fn first_lines(rt: HostRuntime) -> Result<(), Fail> {
     let heap = rt.alloc();
-    faults(&rt, heap, b"", 1, 1)?;
-    faults(&rt, heap, b"Formula\n", 1, 1)?;
-    faults(&rt, heap, b"; c\nformula\n", 1, 1)?;
-    faults(&rt, heap, b"formula\r\n", 1, 1)?;
-    gives(&rt, heap, b"formula", 0, 0, b"")?;
-    gives(&rt, heap, b"  formula ; c", 0, 0, b"")?;
-    gives(&rt, heap, b"formula;c\n\n  \n;\t\xff\n", 0, 0, b"")
+    faults(heap, b"", 1, 1)?;
+    faults(heap, b"Formula\n", 1, 1)?;
+    faults(heap, b"; c\nformula\n", 1, 1)?;
+    faults(heap, b"formula\r\n", 1, 1)?;
+    gives(heap, b"formula", 0, 0, b"")?;
+    gives(heap, b"  formula ; c", 0, 0, b"")?;
+    gives(heap, b"formula;c\n\n  \n;\t\xff\n", 0, 0, b"")
 }
 
 #[test]
 fn words_of_no_form(rt: HostRuntime) -> Result<(), Fail> {
     let heap = rt.alloc();
-    faults(&rt, heap, b"formula\nconst a = 2147483648\n", 2, 2)?;
-    faults(&rt, heap, b"formula\nconst a = 00000000001\n", 2, 2)?;
-    faults(&rt, heap, b"formula\nconst a = 1\r\n", 2, 2)?;
-    faults(&rt, heap, b"formula\n\t\n", 2, 2)?;
-    faults(&rt, heap, b"formula\n((((((((( $\n", 2, 2)?;
-    gives(&rt, heap, b"formula\nconst a = 0000000007", 1, 7, b"")?;
-    gives(
-        &rt,
-        heap,
-        b"formula\nconst a = -2147483648",
-        1,
-        -2147483648,
-        b"",
-    )?;
-    gives(&rt, heap, b"formula\nconst a = 1;2", 1, 1, b"")
+    faults(heap, b"formula\nconst a = 2147483648\n", 2, 2)?;
+    faults(heap, b"formula\nconst a = 00000000001\n", 2, 2)?;
+    faults(heap, b"formula\nconst a = 1\r\n", 2, 2)?;
+    faults(heap, b"formula\n\t\n", 2, 2)?;
+    faults(heap, b"formula\n((((((((( $\n", 2, 2)?;
+    gives(heap, b"formula\nconst a = 0000000007", 1, 7, b"")?;
+    gives(heap, b"formula\nconst a = -2147483648", 1, -2147483648, b"")?;
+    gives(heap, b"formula\nconst a = 1;2", 1, 1, b"")
 }
 
 #[test]
 fn lines_of_no_form(rt: HostRuntime) -> Result<(), Fail> {
     let heap = rt.alloc();
-    faults(&rt, heap, b"formula\nconst a = x\n", 3, 2)?;
-    faults(&rt, heap, b"formula\nconst a = (f 1)\nfun f = x\n", 3, 2)?;
-    faults(&rt, heap, b"formula\nconst a = - 1\n", 3, 2)?;
-    faults(&rt, heap, b"formula\nconst x = 1\nconst\n", 3, 3)?;
-    faults(&rt, heap, b"formula\n) (((((((((\n", 9, 2)?;
+    faults(heap, b"formula\nconst a = x\n", 3, 2)?;
+    faults(heap, b"formula\nconst a = (f 1)\nfun f = x\n", 3, 2)?;
+    faults(heap, b"formula\nconst a = - 1\n", 3, 2)?;
+    faults(heap, b"formula\nconst x = 1\nconst\n", 3, 3)?;
+    faults(heap, b"formula\n) (((((((((\n", 9, 2)?;
     faults(
-        &rt,
         heap,
         b"formula\nfun f = (f (f (f (f (f (f (f (f (f x)))))))))\n",
         9,
         2,
     )?;
     gives(
-        &rt,
         heap,
         b"formula\nfun f = (- (- (- (- (- (- (- (- x x) x) x) x) x) x) x) x)",
         1,
@@ -175,27 +156,27 @@ fn lines_of_no_form(rt: HostRuntime) -> Result<(), Fail> {
 #[test]
 fn names_declared(rt: HostRuntime) -> Result<(), Fail> {
     let heap = rt.alloc();
-    faults(&rt, heap, b"formula\nconst x = 1\nfun f = nope\n", 4, 2)?;
-    faults(&rt, heap, b"formula\nconst a = 1\nfun a = x\n", 4, 3)?;
+    faults(heap, b"formula\nconst x = 1\nfun f = nope\n", 4, 2)?;
+    faults(heap, b"formula\nconst a = 1\nfun a = x\n", 4, 3)?;
     let twelve =
         b"formula\nconst a = 1\nconst b = 1\nconst c = 1\nconst d = 1\nconst e = 1\nconst f = 1\nconst g = 1\nconst h = 1\nconst i = 1\nconst j = 1\nconst k = 1\nconst l = 2\n";
-    gives(&rt, heap, twelve, 12, 2, b"")?;
+    gives(heap, twelve, 12, 2, b"")?;
     let more =
         b"formula\nconst a = 1\nconst b = 1\nconst c = 1\nconst d = 1\nconst e = 1\nconst f = 1\nconst g = 1\nconst h = 1\nconst i = 1\nconst j = 1\nconst k = 1\nconst l = 2\nconst m = 3\n";
-    faults(&rt, heap, more, 9, 14)
+    faults(heap, more, 9, 14)
 }
 
 #[test]
 fn names_used(rt: HostRuntime) -> Result<(), Fail> {
     let heap = rt.alloc();
-    faults(&rt, heap, b"formula\nconst a = a\nfun f = nope\n", 5, 3)?;
-    faults(&rt, heap, b"formula\nfun f = (x 1)\n", 5, 2)?;
-    faults(&rt, heap, b"formula\nfun f = f\n", 5, 2)?;
-    faults(&rt, heap, b"formula\nconst a = 1:t\n", 5, 2)?;
+    faults(heap, b"formula\nconst a = a\nfun f = nope\n", 5, 3)?;
+    faults(heap, b"formula\nfun f = (x 1)\n", 5, 2)?;
+    faults(heap, b"formula\nfun f = f\n", 5, 2)?;
+    faults(heap, b"formula\nconst a = 1:t\n", 5, 2)?;
     let top = ones(heap, 1, b"t", 1, -5)?;
-    gives_with(&rt, heap, b"formula\nconst a = 1:t\n", &top, 1, -5, b"")?;
-    faults_with(&rt, heap, b"formula\nfun f = (1:t x)\n", &top, 5, 2)?;
-    faults_with(&rt, heap, b"formula\nfun f = 2:t\n", &top, 5, 2)
+    gives_with(heap, b"formula\nconst a = 1:t\n", &top, 1, -5, b"")?;
+    faults_with(heap, b"formula\nfun f = (1:t x)\n", &top, 5, 2)?;
+    faults_with(heap, b"formula\nfun f = 2:t\n", &top, 5, 2)
 }
 
 #[test]
@@ -203,7 +184,6 @@ fn entries_of_imports(rt: HostRuntime) -> Result<(), Fail> {
     let heap = rt.alloc();
     let eleven = ones(heap, 1, b"f", 2, 11)?;
     gives_with(
-        &rt,
         heap,
         b"formula\nfun g = (1:f x)\n",
         &eleven,
@@ -212,44 +192,29 @@ fn entries_of_imports(rt: HostRuntime) -> Result<(), Fail> {
         b"\x02\x30\x00\x3f",
     )?;
     let far = ones(heap, 1, b"f", 2, 12)?;
-    faults_with(&rt, heap, b"formula\nfun g = (1:f x)\n", &far, 5, 2)
+    faults_with(heap, b"formula\nfun g = (1:f x)\n", &far, 5, 2)
 }
 
 #[test]
 fn constants(rt: HostRuntime) -> Result<(), Fail> {
     let heap = rt.alloc();
     faults(
-        &rt,
         heap,
         b"formula\nconst a = b\nconst b = c\nconst c = b\n",
         8,
         2,
     )?;
+    faults(heap, b"formula\nconst a = (/ 1 0)\nconst b = b\n", 8, 3)?;
     faults(
-        &rt,
-        heap,
-        b"formula\nconst a = (/ 1 0)\nconst b = b\n",
-        8,
-        3,
-    )?;
-    faults(
-        &rt,
         heap,
         b"formula\nconst a = (/ c 0)\nconst b = (/ 1 0)\nconst c = 1\n",
         7,
         3,
     )?;
-    faults(&rt, heap, b"formula\nconst a = (/ -2147483648 -1)\n", 7, 2)?;
-    faults(
-        &rt,
-        heap,
-        b"formula\nconst a = (* 0 (+ 2147483647 1))\n",
-        7,
-        2,
-    )?;
-    gives(&rt, heap, b"formula\nconst a = (/ -7 2)\n", 1, -3, b"")?;
+    faults(heap, b"formula\nconst a = (/ -2147483648 -1)\n", 7, 2)?;
+    faults(heap, b"formula\nconst a = (* 0 (+ 2147483647 1))\n", 7, 2)?;
+    gives(heap, b"formula\nconst a = (/ -7 2)\n", 1, -3, b"")?;
     gives(
-        &rt,
         heap,
         b"formula\nconst a = (- c 1)\nconst c = (< 1 2)\nconst d = (= a c)\n",
         3,
@@ -261,20 +226,19 @@ fn constants(rt: HostRuntime) -> Result<(), Fail> {
 #[test]
 fn limits(rt: HostRuntime) -> Result<(), Fail> {
     let heap = rt.alloc();
-    faults(&rt, heap, &[b' '; 512], 1, 1)?;
-    faults(&rt, heap, &[b' '; 513], 9, 0)?;
+    faults(heap, &[b' '; 512], 1, 1)?;
+    faults(heap, &[b' '; 513], 9, 0)?;
     let five = ones(heap, 5, b"a", 1, 0)?;
-    faults_with(&rt, heap, b"", &five, 9, 0)?;
+    faults_with(heap, b"", &five, 9, 0)?;
     let calls =
         b"formula\nfun a = (a (a (a (a (a (a (a (a x))))))))\nfun b = (a (a (a (a (a (a (a (a x))))))))\nfun c = (a (a (a (a (a (a (a (a x))))))))\nfun d = (a (a (a (a (a (a (a (a x))))))))\nfun e = (a x)\n";
-    faults(&rt, heap, calls, 9, 0)
+    faults(heap, calls, 9, 0)
 }
 
 #[test]
 fn code(rt: HostRuntime) -> Result<(), Fail> {
     let heap = rt.alloc();
     gives(
-        &rt,
         heap,
         b"formula\nconst top = 7\nfun over = (< top x)\n",
         2,
@@ -282,7 +246,6 @@ fn code(rt: HostRuntime) -> Result<(), Fail> {
         b"\x01\x00\x00\x00\x07\x02\x14\x3f",
     )?;
     gives(
-        &rt,
         heap,
         b"formula\nfun a = x\nfun b = (a (b -1))\n",
         2,
@@ -290,7 +253,6 @@ fn code(rt: HostRuntime) -> Result<(), Fail> {
         b"\x02\x3f\x01\xff\xff\xff\xff\x30\x00\x30\x01\x3f",
     )?;
     gives(
-        &rt,
         heap,
         b"formula\nfun f = (/ 1 0)\n",
         1,

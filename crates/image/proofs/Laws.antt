@@ -1,6 +1,6 @@
 -- Images read back to exactly what was written, and are written again exactly as they were read.
 use Rattle.std.proofs.Common.{◌≡◌, ℕ, zero, suc, ◌+◌, ◌*◌, ◌<◌, ◌≤◌, Bool, true, false, cond, eqb, ◌⊎◌, List, [], ◌∷◌, ◌++◌, length, Some, None, Option, sym, refl, ap, ◌∙◌, subst, inl, inr, append_assoc, suc-mul, zero-mul, arith, length-append}
-use Rattle.std.specs.List.{AllByRecursion as All}
+use Rattle.std.specs.List.{AllByRecursion}
 use Rattle.std.proofs.lemmas.Bool.{eq-eqb, ne_eqb, eqb-true}
 use Rattle.names.specs.declared.name.Name.{Name}
 use Rattle.codec.specs.Format.{Format, next, begins, each, many, byte, pair, name, code}
@@ -43,7 +43,7 @@ module _ {X : Type 0} (f : Format X) (P : X → Type 0) (law : Lawful f P) where
     behind_count : ℕ → List ℕ → Option (List X × List ℕ)
     behind_count m cs = cond (eqb m n) (many n f.get cs) None
 
-    exactly_back : (xs : List X) → (length xs ≡ n) × All P xs → (rest : List ℕ) → (exactly n f).get ((exactly n f).put xs ++ rest) ≡ Some (xs, rest)
+    exactly_back : (xs : List X) → (length xs ≡ n) × AllByRecursion P xs → (rest : List ℕ) → (exactly n f).get ((exactly n f).put xs ++ rest) ≡ Some (xs, rest)
     unfolding behind_count
     exactly_back xs h rest =
         let e : length xs ≡ n = h.0 in
@@ -52,7 +52,7 @@ module _ {X : Type 0} (f : Format X) (P : X → Type 0) (law : Lawful f P) where
         ∙ ap (λ k. many k f.get (each f.put xs ++ rest)) (sym e)
         ∙ many_back f P law xs h.1 rest
 
-    exactly_only : (bs : List ℕ) (xs : List X) (rest : List ℕ) → (exactly n f).get bs ≡ Some (xs, rest) → (bs ≡ (exactly n f).put xs ++ rest) × ((length xs ≡ n) × All P xs)
+    exactly_only : (bs : List ℕ) (xs : List X) (rest : List ℕ) → (exactly n f).get bs ≡ Some (xs, rest) → (bs ≡ (exactly n f).put xs ++ rest) × ((length xs ≡ n) × AllByRecursion P xs)
     unfolding behind_count
     exactly_only bs xs rest e =
         let a = seq_only byte (λ b. b < 256) byte_lawful behind_count bs xs rest e in
@@ -61,7 +61,7 @@ module _ {X : Type 0} (f : Format X) (P : X → Type 0) (law : Lawful f P) where
         let m : a.0 ≡ length xs = eqb-true a.0 n b.0 ∙ sym c.2 in
         (glue bs (byte.put (length xs)) a.1 (each f.put xs) rest (a.2 ∙ ap (λ k. byte.put k ++ a.1) m) c.0, (c.2, c.1))
 
-    exactly_lawful : Lawful (exactly n f) (λ xs. (length xs ≡ n) × All P xs)
+    exactly_lawful : Lawful (exactly n f) (λ xs. (length xs ≡ n) × AllByRecursion P xs)
     exactly_lawful = record { back = exactly_back; only = exactly_only }
 
   -- the rows of one unit
@@ -76,7 +76,7 @@ module _ {X : Type 0} (f : Format X) (P : X → Type 0) (law : Lawful f P) where
     run_none room m tail (inl e) = ap (λ k. run f.get u room k tail) e ∙ ap (λ k. Some (([], k), tail)) (sym e)
     run_none room m tail (inr e) = run_other f.get u room m tail e
 
-    run_back : (xs ys : List X) (room : ℕ) (tail : List ℕ) → length xs ≤ room → All P xs → (length ys ≡ 0) ⊎ (begins u tail ≡ false) →
+    run_back : (xs ys : List X) (room : ℕ) (tail : List ℕ) → length xs ≤ room → AllByRecursion P xs → (length ys ≡ 0) ⊎ (begins u tail ≡ false) →
         run f.get u room (length (xs ++ ys)) (each line xs ++ tail) ≡ Some ((xs, length ys), tail)
     run_back [] ys room tail h all stops = run_none room (length ys) tail stops
     run_back (x ∷ xs) ys zero tail h all stops = absurd (omega arith)
@@ -86,7 +86,7 @@ module _ {X : Type 0} (f : Format X) (P : X → Type 0) (law : Lawful f P) where
         ∙ ap (λ o. next o (λ p ds. Some ((x ∷ p.0, p.1), ds))) (run_back xs ys room tail (omega arith) all.1 stops)
 
     abbrev Read : ℕ → ℕ → List ℕ → List X → ℕ → List ℕ → Type 0
-    Read n room bs xs m rest = (bs ≡ each line xs ++ rest) × All P xs × (length xs ≤ room) × (n ≡ length xs + m)
+    Read n room bs xs m rest = (bs ≡ each line xs ++ rest) × AllByRecursion P xs × (length xs ≤ room) × (n ≡ length xs + m)
 
     -- no rows
     stayed : (n room : ℕ) (bs : List ℕ) (xs : List X) (m : ℕ) (rest : List ℕ) → ◌≡◌ {A = Option ((List X × ℕ) × List ℕ)} (Some (([], n), bs)) (Some ((xs, m), rest)) → Read n room bs xs m rest
@@ -94,7 +94,7 @@ module _ {X : Type 0} (f : Format X) (P : X → Type 0) (law : Lawful f P) where
         let p : ◌≡◌ {A = List X × ℕ} ([], n) (xs, m) = some_first ([], n) (xs, m) bs rest e in
         let none : [] ≡ xs = ap (λ q. q.0) p in
         let same : n ≡ m = ap (λ q. q.1) p in
-        (some_rest ([], n) (xs, m) bs rest e ∙ ap (λ ys. each line ys ++ rest) none, subst (All P) none tt, let l : length xs ≡ 0 = sym (ap length none) in omega arith, let l : length xs ≡ 0 = sym (ap length none) in omega arith)
+        (some_rest ([], n) (xs, m) bs rest e ∙ ap (λ ys. each line ys ++ rest) none, subst (AllByRecursion P) none tt, let l : length xs ≡ 0 = sym (ap length none) in omega arith, let l : length xs ≡ 0 = sym (ap length none) in omega arith)
 
     -- one row more
     took : (n room : ℕ) (b : ℕ) (bs : List ℕ) (xs : List X) (m : ℕ) (rest : List ℕ) → b ≡ u → (x : X) (cs : List ℕ) (ys : List X) → bs ≡ f.put x ++ cs → P x → Read n room cs ys m rest → x ∷ ys ≡ xs →
@@ -104,7 +104,7 @@ module _ {X : Type 0} (f : Format X) (P : X → Type 0) (law : Lawful f P) where
         let few : length ys ≤ room = r.2 in
         let count : n ≡ length ys + m = r.3 in (
           (λ i. e i ∷ glue bs (f.put x) cs (each line ys) rest front r.0 i) ∙ ap (λ zs. each line zs ++ rest) same,
-          subst (All P) same (h, r.1),
+          subst (AllByRecursion P) same (h, r.1),
           omega arith,
           omega arith,
         )
@@ -135,7 +135,7 @@ module _ {X : Type 0} (f : Format X) (P : X → Type 0) (law : Lawful f P) where
   -- the rows of several units
   module _ (room : ℕ) where
     abbrev Few : List X → Type 0
-    Few xs = (length xs ≤ room) × All P xs
+    Few xs = (length xs ≤ room) × AllByRecursion P xs
 
     abbrev others : ℕ → ℕ → List X × ℕ → List ℕ → Option (List (List X) × List ℕ)
     others u k p cs = next (undeal f.get room (suc u) k p.1 cs) (λ xss ds. Some (p.0 ∷ xss, ds))
@@ -145,7 +145,7 @@ module _ {X : Type 0} (f : Format X) (P : X → Type 0) (law : Lawful f P) where
     stops u v ([] ∷ xss) rest h = stops u (suc v) xss rest (omega arith)
     stops u v ((x ∷ xs) ∷ xss) rest h = inr (ne_eqb v u (λ e. omega arith))
 
-    deal_back : (u : ℕ) (xss : List (List X)) → All Few xss → (rest : List ℕ) → undeal f.get room u (length xss) (length (flat xss)) (deal f.put u xss ++ rest) ≡ Some (xss, rest)
+    deal_back : (u : ℕ) (xss : List (List X)) → AllByRecursion Few xss → (rest : List ℕ) → undeal f.get room u (length xss) (length (flat xss)) (deal f.put u xss ++ rest) ≡ Some (xss, rest)
     deal_back u [] h rest = refl
     deal_back u (xs ∷ xss) h rest =
         let tail = deal f.put (suc u) xss ++ rest in
@@ -154,12 +154,12 @@ module _ {X : Type 0} (f : Format X) (P : X → Type 0) (law : Lawful f P) where
         ∙ ap (λ o. next o (λ yss ds. Some (xs ∷ yss, ds))) (deal_back (suc u) xss h.1 rest)
 
     deal_only : (k u n : ℕ) (bs : List ℕ) (xss : List (List X)) (rest : List ℕ) → undeal f.get room u k n bs ≡ Some (xss, rest) →
-        (bs ≡ deal f.put u xss ++ rest) × All Few xss × (length xss ≡ k) × (n ≡ length (flat xss))
+        (bs ≡ deal f.put u xss ++ rest) × AllByRecursion Few xss × (length xss ≡ k) × (n ≡ length (flat xss))
     deal_only zero u n bs xss rest e =
         let p = passed (eqb n 0) (Some ([], bs)) (xss, rest) e in
         let none : [] ≡ xss = some_first [] xss bs rest p.1 in
         let zero-rows : n ≡ 0 = eqb-true n 0 p.0 in
-        (some_rest [] xss bs rest p.1 ∙ ap (λ yss. deal f.put u yss ++ rest) none, subst (All Few) none tt, sym (ap length none), zero-rows ∙ ap (λ yss. length (flat yss)) none)
+        (some_rest [] xss bs rest p.1 ∙ ap (λ yss. deal f.put u yss ++ rest) none, subst (AllByRecursion Few) none tt, sym (ap length none), zero-rows ∙ ap (λ yss. length (flat yss)) none)
     deal_only (suc k) u n bs xss rest e =
         let a = next_some (run f.get u room n bs) (others u k) xss rest e in
         let xs = a.0.0 in
@@ -172,12 +172,12 @@ module _ {X : Type 0} (f : Format X) (P : X → Type 0) (law : Lawful f P) where
         let d = deal_only k (suc u) m a.1 yss rest (c.2 ∙ ap (λ ds. Some (yss, ds)) behind) in
         let count : n ≡ length (xs ++ flat yss) = r.3 ∙ ap (λ j. length xs + j) d.3 ∙ sym (length-append xs (flat yss)) in (
           glue bs (each (λ x. u ∷ f.put x) xs) a.1 (deal f.put (suc u) yss) rest r.0 d.0 ∙ ap (λ zss. deal f.put u zss ++ rest) same,
-          subst (All Few) same ((r.2, r.1), d.1),
+          subst (AllByRecursion Few) same ((r.2, r.1), d.1),
           sym (ap length same) ∙ ap suc d.2,
           count ∙ ap (λ zss. length (flat zss)) same,
         )
 
-    flat_few : (xss : List (List X)) → All Few xss → length (flat xss) ≤ length xss * room
+    flat_few : (xss : List (List X)) → AllByRecursion Few xss → length (flat xss) ≤ length xss * room
     flat_few [] h = omega (arith, zero-mul room)
     flat_few (xs ∷ xss) h = omega (arith, length-append xs (flat xss), flat_few xss h.1, suc-mul (length xss) room, h.0.0)
 
@@ -185,7 +185,7 @@ module _ {X : Type 0} (f : Format X) (P : X → Type 0) (law : Lawful f P) where
       abbrev behind_rows : ℕ → List ℕ → Option (List (List X) × List ℕ)
       behind_rows rows cs = undeal f.get room zero units rows cs
 
-      dealt_back : (xss : List (List X)) → (length xss ≡ units) × All Few xss → (rest : List ℕ) → (dealt room units f).get ((dealt room units f).put xss ++ rest) ≡ Some (xss, rest)
+      dealt_back : (xss : List (List X)) → (length xss ≡ units) × AllByRecursion Few xss → (rest : List ℕ) → (dealt room units f).get ((dealt room units f).put xss ++ rest) ≡ Some (xss, rest)
       dealt_back xss h rest =
           let n = length (flat xss) in
           let product : length xss * room ≡ units * room = ap (λ k. k * room) h.0 in
@@ -194,34 +194,34 @@ module _ {X : Type 0} (f : Format X) (P : X → Type 0) (law : Lawful f P) where
           ∙ ap (λ k. undeal f.get room zero k n (deal f.put zero xss ++ rest)) (sym h.0)
           ∙ deal_back zero xss h.1 rest
 
-      dealt_only : (bs : List ℕ) (xss : List (List X)) (rest : List ℕ) → (dealt room units f).get bs ≡ Some (xss, rest) → (bs ≡ (dealt room units f).put xss ++ rest) × ((length xss ≡ units) × All Few xss)
+      dealt_only : (bs : List ℕ) (xss : List (List X)) (rest : List ℕ) → (dealt room units f).get bs ≡ Some (xss, rest) → (bs ≡ (dealt room units f).put xss ++ rest) × ((length xss ≡ units) × AllByRecursion Few xss)
       dealt_only bs xss rest e =
           let a = seq_only pair (λ k. k < 65536) pair_lawful behind_rows bs xss rest e in
           let d = deal_only units zero a.0 a.1 xss rest a.4 in
           (glue bs (pair.put (length (flat xss))) a.1 (deal f.put zero xss) rest (a.2 ∙ ap (λ k. pair.put k ++ a.1) d.3) d.0, (d.2, d.1))
 
-      dealt_lawful : Lawful (dealt room units f) (λ xss. (length xss ≡ units) × All Few xss)
+      dealt_lawful : Lawful (dealt room units f) (λ xss. (length xss ≡ units) × AllByRecursion Few xss)
       dealt_lawful = record { back = dealt_back; only = dealt_only }
 
 abbrev Coded : ℕ → List (List ℕ) → Type 0
-Coded n cs = (length cs ≡ n) × All (λ c. (length c ≤ 384) × All (λ b. b < 256) c) cs
+Coded n cs = (length cs ≡ n) × AllByRecursion (λ c. (length c ≤ 384) × AllByRecursion (λ b. b < 256) c) cs
 
 abbrev Entered : ℕ → List (List ℕ) → Type 0
-Entered n ess = (length ess ≡ n) × All (λ es. (length es ≤ 12) × All (λ e. e < 65536) es) ess
+Entered n ess = (length ess ≡ n) × AllByRecursion (λ es. (length es ≤ 12) × AllByRecursion (λ e. e < 65536) es) ess
 
 abbrev Referred : ℕ → List (List Target) → Type 0
-Referred n tss = (length tss ≡ n) × All (λ ts. (length ts ≤ 32) × All SmallTarget ts) tss
+Referred n tss = (length tss ≡ n) × AllByRecursion (λ ts. (length ts ≤ 32) × AllByRecursion SmallTarget ts) tss
 
-names_lawful : Lawful names (λ ns. (length ns ≤ 24) × All (λ n. Unit {0}) ns)
+names_lawful : Lawful names (λ ns. (length ns ≤ 24) × AllByRecursion (λ n. Unit {0}) ns)
 names_lawful = listed_lawful name (λ n. Unit {0}) name_lawful byte (λ b. b < 256) byte_lawful 24 (λ n h. omega arith)
 
-all-names : (ns : List Name) → All (λ n. Unit {0}) ns
+all-names : (ns : List Name) → AllByRecursion (λ n. Unit {0}) ns
 all-names [] = tt
 all-names (n ∷ ns) = (tt, all-names ns)
 
 codes_lawful : (n : ℕ) → n ≤ 24 → Lawful (exactly n code) (Coded n)
 codes_lawful n h =
-    exactly_lawful code (λ c. (length c ≤ 384) × All (λ b. b < 256) c)
+    exactly_lawful code (λ c. (length c ≤ 384) × AllByRecursion (λ b. b < 256) c)
     (listed_lawful byte (λ b. b < 256) byte_lawful pair (λ k. k < 65536) pair_lawful 384 (λ k g. omega arith)) n (omega arith)
 
 entries_lawful : (n : ℕ) → n ≤ 24 → Lawful (dealt 12 n pair) (Entered n)
@@ -249,14 +249,14 @@ sections_back u h rest =
     let c = (exactly n code).put u.codes in
     let e = (dealt 12 n pair).put u.entries in
     let r = (dealt 32 n target).put u.references in
-    seq_back names (λ ns. (length ns ≤ 24) × All (λ n. Unit {0}) ns) names_lawful sections_1 u.names (h.0, all-names u.names) (c ++ (e ++ r)) rest
+    seq_back names (λ ns. (length ns ≤ 24) × AllByRecursion (λ n. Unit {0}) ns) names_lawful sections_1 u.names (h.0, all-names u.names) (c ++ (e ++ r)) rest
     ∙ seq_back (exactly n code) (Coded n) (codes_lawful n h.0) (sections_2 u.names) u.codes h.1 (e ++ r) rest
     ∙ seq_back (dealt 12 n pair) (Entered n) (entries_lawful n h.0) (sections_3 u.names u.codes) u.entries h.2 r rest
     ∙ last_back (dealt 32 n target) (Referred n) (references_lawful n h.0) (λ x fs. Some (record { names = u.names; codes = u.codes; entries = u.entries; references = x }, fs)) u.references h.3 rest
 
 sections_only : (bs : List ℕ) (u : Units) (rest : List ℕ) → sections.get bs ≡ Some (u, rest) → (bs ≡ sections.put u ++ rest) × SectionsWithin u
 sections_only bs u rest eq =
-    let a = seq_only names (λ ns. (length ns ≤ 24) × All (λ n. Unit {0}) ns) names_lawful sections_1 bs u rest eq in
+    let a = seq_only names (λ ns. (length ns ≤ 24) × AllByRecursion (λ n. Unit {0}) ns) names_lawful sections_1 bs u rest eq in
     let n = length a.0 in
     let few : n ≤ 24 = a.3.0 in
     let b = seq_only (exactly n code) (Coded n) (codes_lawful n few) (sections_2 a.0) a.1 u rest a.4 in

@@ -1,6 +1,6 @@
 -- The theorem of the round trip.
 use Rattle.std.proofs.Common.{◌≡◌, ℕ, suc, ◌+◌, ◌*◌, ◌<◌, ◌≤◌, List, [], ◌∷◌, ◌++◌, map, length, drop, refl, ap, ◌∙◌, suc-mul, zero-mul, arith, length-append}
-use Rattle.std.specs.List.{AllByRecursion as All}
+use Rattle.std.specs.List.{AllByRecursion}
 use Rattle.codec.specs.Format.{each, pair, name, code}
 use Rattle.codec.proofs.Laws.{whole_back, whole_only, one_writing, name-length}
 use Rattle.codec.proofs.Lengths.{each-length, code-length}
@@ -50,7 +50,7 @@ image_long u h =
     let all : length (image_bytes u) ≡ length a + (length c + (length e + length r)) = four a c e r in
     omega arith
 
-flat-within : {X : Type 0} (P : X → Type 0) (m : ℕ) (xss : List (List X)) → All (λ xs. (length xs ≤ m) × All P xs) xss → length (flat xss) ≤ length xss * m
+flat-within : {X : Type 0} (P : X → Type 0) (m : ℕ) (xss : List (List X)) → AllByRecursion (λ xs. (length xs ≤ m) × AllByRecursion P xs) xss → length (flat xss) ≤ length xss * m
 flat-within P m [] h = omega (arith, zero-mul m)
 flat-within P m (xs ∷ xss) h = omega (arith, length-append xs (flat xss), flat-within P m xss h.1, suc-mul (length xss) m, h.0.0)
 

@@ -1,6 +1,6 @@
 -- Images as parts, and their one writing.
 use Rattle.std.specs.Prelude.{◌≡◌, ℕ, ◌<◌, ◌≤◌, Bool, true, false, cond, not, ◌&&◌, ◌||◌, ltb, List, [], ◌∷◌, ◌++◌, length, Some, None, Option, ◌==◌, nat_lt, slice_index_or}
-use Rattle.std.specs.List.{AllByRecursion as All}
+use Rattle.std.specs.List.{AllByRecursion}
 use Rattle.std.specs.Str.{bytes_eq}
 use Rattle.bounded.specs.Held.{held}
 use Rattle.names.specs.declared.name.Name.{Name}
@@ -98,9 +98,9 @@ SmallTarget t = (t.unit < 256) × (t.entry < 256)
 pub record WithinUnits (u : Units) : Type 0 where
   pub few : length u.names ≤ 24
   pub coded : length u.codes ≡ length u.names
-  pub codes : All (λ c. (length c ≤ 384) × All (λ b. b < 256) c) u.codes
+  pub codes : AllByRecursion (λ c. (length c ≤ 384) × AllByRecursion (λ b. b < 256) c) u.codes
   pub entered : length u.entries ≡ length u.names
-  pub entries : All (λ es. (length es ≤ 12) × All (λ e. e < 65536) es) u.entries
+  pub entries : AllByRecursion (λ es. (length es ≤ 12) × AllByRecursion (λ e. e < 65536) es) u.entries
   pub referred : length u.references ≡ length u.names
-  pub references : All (λ ts. (length ts ≤ 32) × All SmallTarget ts) u.references
+  pub references : AllByRecursion (λ ts. (length ts ≤ 32) × AllByRecursion SmallTarget ts) u.references
   pub sound : valid u ≡ true

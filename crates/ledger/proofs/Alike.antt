@@ -1,6 +1,6 @@
 -- Products that importers cannot tell apart.
 use Rattle.std.proofs.Common.{◌≡◌, ℕ, ◌<◌, ◌≤◌, Bool, true, false, cond, ◌&&◌, List, [], ◌∷◌, ◌++◌, map, length, is_some, Some, None, Option, sym, refl, ap, ◌∙◌, subst, arith}
-use Rattle.std.specs.List.{AllZip, AllByRecursion as All}
+use Rattle.std.specs.List.{AllZip, AllByRecursion}
 use Rattle.std.specs.Str.{bytes_eq}
 use Rattle.std.proofs.lemmas.List.Elements.{AllZip-push}
 use Rattle.std.proofs.ByRecursion.{All-push}
@@ -89,7 +89,7 @@ module _ (m : Meaning) (l : Laws m) where
   like_push ds es u p q h k = AllZip-push (Like m) ds es (record { unit = u.name; parts = p }) (record { unit = u.name; parts = q }) h (refl, k)
 
 -- interfaces that a caller can hold
-sound_interface : (ds : List Made) → All SoundMade ds → (n : Name) → WithinRows (interface_of ds n)
+sound_interface : (ds : List Made) → AllByRecursion SoundMade ds → (n : Name) → WithinRows (interface_of ds n)
 sound_interface [] h n = (omega arith, tt)
 sound_interface (d ∷ ds) h n = by (same d.unit n) (sound_interface ds h.1 n)
   where
@@ -97,15 +97,15 @@ sound_interface (d ∷ ds) h n = by (same d.unit n) (sound_interface ds h.1 n)
     by true r = h.0
     by false r = r
 
-sound_listed : (ds : List Made) → All SoundMade ds → (ns : List Name) → All WithinRows (map (interface_of ds) ns)
+sound_listed : (ds : List Made) → AllByRecursion SoundMade ds → (ns : List Name) → AllByRecursion WithinRows (map (interface_of ds) ns)
 sound_listed ds h [] = tt
 sound_listed ds h (n ∷ ns) = (sound_interface ds h n, sound_listed ds h ns)
 
-pub sound_interfaces : (ds : List Made) → All SoundMade ds → (u : Member) → All WithinRows (interfaces ds u)
+pub sound_interfaces : (ds : List Made) → AllByRecursion SoundMade ds → (u : Member) → AllByRecursion WithinRows (interfaces ds u)
 sound_interfaces ds h u = sound_listed ds h u.imports
 
 -- what is stored keeps the limits
-pub sound_art : (m : Meaning) → Laws m → (u : Member) (ds : List Made) (p : Parts) → SoundMember u → All SoundMade ds → m.means u.source (interfaces ds u) ≡ made p → WithinArt (art_of u (interfaces ds u) p)
+pub sound_art : (m : Meaning) → Laws m → (u : Member) (ds : List Made) (p : Parts) → SoundMember u → AllByRecursion SoundMade ds → m.means u.source (interfaces ds u) ≡ made p → WithinArt (art_of u (interfaces ds u) p)
 sound_art m l u ds p h k e =
     let few : length (interfaces ds u) ≡ length u.imports = length-map u.imports (interface_of ds) in
     record {

@@ -1,6 +1,6 @@
 -- A build over true artifacts agrees with fresh translation, and leaves true artifacts.
 use Rattle.std.proofs.Common.{◌≡◌, ℕ, zero, suc, Bool, true, false, cond, List, [], ◌∷◌, ◌++◌, length, take, Some, None, Option, sym, refl, ap, ◌∙◌, subst}
-use Rattle.std.specs.List.{AllZip, AllByRecursion as All}
+use Rattle.std.specs.List.{AllZip, AllByRecursion}
 use Rattle.std.specs.Str.{bytes_eq}
 use Rattle.std.proofs.ByRecursion.{All-push}
 use Rattle.names.specs.declared.name.Name.{Name}
@@ -56,7 +56,7 @@ module _ {S : Type 0} (m : Meaning) (l : Laws m) (sh : Shelf S) (keeps : Keeps s
       by true g = let is : a ≡ b = cc in subst (TrueArt m) is t
       by false g = h p b g
 
-  pub build_shows : (us : List Member) (ds es : List Made) (s : S) → All SoundMember us → All SoundMade ds → TrueShelf m sh s → AllZip (Like m) ds es → Shows us es (build_units m sh us ds s)
+  pub build_shows : (us : List Member) (ds es : List Made) (s : S) → AllByRecursion SoundMember us → AllByRecursion SoundMade ds → TrueShelf m sh s → AllZip (Like m) ds es → Shows us es (build_units m sh us ds s)
   build_shows [] ds es s su sd t h = ((es, refl, h), t)
   build_shows (u ∷ us) ds es s su sd t h =
       by_kept (current m u (interfaces ds u) (sh.seen s u.name.bytes)) refl

@@ -1,7 +1,7 @@
 -- Every call keeps the artifacts and products true, so that what is linked is what fresh translation links to.
 use Rattle.std.proofs.Common.{◌≡◌, ℕ, zero, suc, ◌<◌, ◌≤◌, Bool, true, false, cond, not, ◌&&◌, ltb, leb, List, [], ◌∷◌, ◌++◌, map, length, is_some, Some, None, Option, sym, refl, ap, ◌∙◌, subst, arith}
 use Rattle.std.specs.Option.{option_to_list}
-use Rattle.std.specs.List.{AllZip, AllByRecursion as All, slice_get}
+use Rattle.std.specs.List.{AllZip, AllByRecursion, slice_get}
 use Rattle.std.specs.Str.{bytes_eq}
 use Rattle.std.proofs.ByRecursion.{All-append}
 use Rattle.std.proofs.lemmas.Bool.{true≢false, ltb-false}
@@ -22,28 +22,28 @@ use Rattle.ledger.proofs.Builds.{build_shows}
 
 -- ---- lists of units
 
-pub all-with : (P : Member → Type 0) (u : Member) (vs : List Member) → All P vs → P u → All P (with u vs)
+pub all-with : (P : Member → Type 0) (u : Member) (vs : List Member) → AllByRecursion P vs → P u → AllByRecursion P (with u vs)
 all-with P u [] h k = (k, tt)
 all-with P u (v ∷ vs) h k = by (same v.name u.name) (all-with P u vs h.1 k)
   where
-    by : (b : Bool) → All P (with u vs) → All P (cond b (u ∷ vs) (v ∷ with u vs))
+    by : (b : Bool) → AllByRecursion P (with u vs) → AllByRecursion P (cond b (u ∷ vs) (v ∷ with u vs))
     by true r = (k, h.1)
     by false r = (h.0, r)
 
-pub all_without : (P : Member → Type 0) (n : Name) (vs : List Member) → All P vs → All P (without n vs)
+pub all_without : (P : Member → Type 0) (n : Name) (vs : List Member) → AllByRecursion P vs → AllByRecursion P (without n vs)
 all_without P n [] h = tt
 all_without P n (v ∷ vs) h = by (same v.name n) (all_without P n vs h.1)
   where
-    by : (b : Bool) → All P (without n vs) → All P (cond b vs (v ∷ without n vs))
+    by : (b : Bool) → AllByRecursion P (without n vs) → AllByRecursion P (cond b vs (v ∷ without n vs))
     by true r = h.1
     by false r = (h.0, r)
 
-all-nth : (P : Member → Type 0) (vs : List Member) (i : ℕ) → All P vs → All P (option_to_list (slice_get vs i))
+all-nth : (P : Member → Type 0) (vs : List Member) (i : ℕ) → AllByRecursion P vs → AllByRecursion P (option_to_list (slice_get vs i))
 all-nth P [] i h = tt
 all-nth P (v ∷ vs) zero h = (h.0, tt)
 all-nth P (v ∷ vs) (suc i) h = all-nth P vs i h.1
 
-pub all-in_order : (P : Member → Type 0) (vs : List Member) (places : List ℕ) → All P vs → All P (in_order vs places)
+pub all-in_order : (P : Member → Type 0) (vs : List Member) (places : List ℕ) → AllByRecursion P vs → AllByRecursion P (in_order vs places)
 all-in_order P vs [] h = tt
 all-in_order P vs (p ∷ ps) h = All-append P (option_to_list (slice_get vs p)) (in_order vs ps) (all-nth P vs p h) (all-in_order P vs ps h)
 
@@ -76,17 +76,17 @@ module _ {S : Type 0} (m : Meaning) (l : Laws m) (sh : Shelf S) (keeps : Keeps s
       by true g = absurd (true≢false (sym (ap is_some g)))
       by false g = h p b g
 
-  put_keeps : (n : ℕ) (u : Member) (vs : List Member) (s : S) → put_answer u vs ≡ n → All (λ b. b < 256) u.source → All SoundMember vs → TrueShelf m sh s → TrueState m sh (put_by m sh n u vs s).state
+  put_keeps : (n : ℕ) (u : Member) (vs : List Member) (s : S) → put_answer u vs ≡ n → AllByRecursion (λ b. b < 256) u.source → AllByRecursion SoundMember vs → TrueShelf m sh s → TrueState m sh (put_by m sh n u vs s).state
   put_keeps zero u vs s e bytes h t =
       let w = put-within u vs e in
       record { members = all-with SoundMember u vs h (w.0, bytes, w.1); shelf = t; stage = tt }
   put_keeps (suc n) u vs s e bytes h t = record { members = h; shelf = t; stage = tt }
 
-  remove_keeps : (k : ℕ) (n : Name) (vs : List Member) (s : S) → All SoundMember vs → TrueShelf m sh s → TrueState m sh (remove_by m sh k n vs s).state
+  remove_keeps : (k : ℕ) (n : Name) (vs : List Member) (s : S) → AllByRecursion SoundMember vs → TrueShelf m sh s → TrueState m sh (remove_by m sh k n vs s).state
   remove_keeps zero n vs s h t = record { members = all_without SoundMember n vs h; shelf = true_dropped s n.bytes t; stage = tt }
   remove_keeps (suc k) n vs s h t = record { members = h; shelf = t; stage = tt }
 
-  built_keeps : (vs : List Member) (places : List ℕ) (b : Built S) → checked vs ≡ linked places → All SoundMember vs → Agrees m (in_order vs places) [] b → TrueShelf m sh b.state → TrueState m sh (built_by m sh vs b).state
+  built_keeps : (vs : List Member) (places : List ℕ) (b : Built S) → checked vs ≡ linked places → AllByRecursion SoundMember vs → Agrees m (in_order vs places) [] b → TrueShelf m sh b.state → TrueState m sh (built_by m sh vs b).state
   built_keeps vs places b e h a t = record { members = h; shelf = t; stage = by b.ended a }
     where
       by : (x : Ended) → AgreesBy m (in_order vs places) [] b.done (length b.marks) x → TrueStage m vs (frozen (products m sh x b.done))
@@ -94,7 +94,7 @@ module _ {S : Type 0} (m : Meaning) (l : Laws m) (sh : Shelf S) (keeps : Keeps s
       by (faulty n f) g = tt
       by (unstored n k) g = tt
 
-  build_keeps : (v : Verdict) (vs : List Member) (held : Option (List Made)) (s : S) → checked vs ≡ v → All SoundMember vs → TrueShelf m sh s → TrueStage m vs (frozen held) → TrueState m sh (build_by m sh v vs held s).state
+  build_keeps : (v : Verdict) (vs : List Member) (held : Option (List Made)) (s : S) → checked vs ≡ v → AllByRecursion SoundMember vs → TrueShelf m sh s → TrueStage m vs (frozen held) → TrueState m sh (build_by m sh v vs held s).state
   build_keeps (missing n k) vs held s e h t g = record { members = h; shelf = t; stage = g }
   build_keeps (circle n) vs held s e h t g = record { members = h; shelf = t; stage = g }
   build_keeps (linked places) vs held s e h t g =
@@ -102,7 +102,7 @@ module _ {S : Type 0} (m : Meaning) (l : Laws m) (sh : Shelf S) (keeps : Keeps s
       built_keeps vs places (build_units m sh (in_order vs places) [] s) e h shows.0 shows.1
   build_keeps nothing vs held s e h t g = record { members = h; shelf = t; stage = g }
 
-  stage_keeps : (g : Stage) (vs : List Member) (s : S) (c : Call) → ByteCall c → All SoundMember vs → TrueShelf m sh s → TrueStage m vs g → TrueState m sh (by_stage m sh g vs s c).state
+  stage_keeps : (g : Stage) (vs : List Member) (s : S) (c : Call) → ByteCall c → AllByRecursion SoundMember vs → TrueShelf m sh s → TrueStage m vs g → TrueState m sh (by_stage m sh g vs s c).state
   stage_keeps draft vs s (put u) b h t g = put_keeps (put_answer u vs) u vs s refl b h t
   stage_keeps draft vs s (remove n) b h t g = remove_keeps (remove_answer n vs) n vs s h t
   stage_keeps draft vs s freeze b h t g = record { members = h; shelf = t; stage = tt }
@@ -119,7 +119,7 @@ module _ {S : Type 0} (m : Meaning) (l : Laws m) (sh : Shelf S) (keeps : Keeps s
   pub turn_keeps : (t : State S) (c : Call) → ByteCall c → TrueState m sh t → TrueState m sh (turn m sh t c).state
   turn_keeps t c b h = stage_keeps t.stage t.project t.shelf c b h.members h.shelf h.stage
 
-  pub run_keeps : (t : State S) (cs : List Call) → All ByteCall cs → TrueState m sh t → TrueState m sh (run m sh t cs)
+  pub run_keeps : (t : State S) (cs : List Call) → AllByRecursion ByteCall cs → TrueState m sh t → TrueState m sh (run m sh t cs)
   run_keeps t [] b h = h
   run_keeps t (c ∷ cs) b h = run_keeps (turn m sh t c).state cs b.1 (turn_keeps t c b.0 h)
 

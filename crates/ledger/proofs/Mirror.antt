@@ -1,7 +1,7 @@
 -- Over a store that holds the ledger's artifacts every call says what it says over the ledger, and the store goes on holding them.
 use Rattle.std.proofs.Common.{◌≡◌, ℕ, zero, suc, ◌+◌, ◌-◌, ◌<◌, ◌≤◌, Bool, true, false, cond, ◌&&◌, ◌||◌, ltb, List, [], ◌∷◌, ◌++◌, length, is_some, Some, None, Option, sym, refl, ap, ◌∙◌, subst, arith}
 use Rattle.std.specs.Option.{option_map}
-use Rattle.std.specs.List.{AllByRecursion as All}
+use Rattle.std.specs.List.{AllByRecursion}
 use Rattle.std.specs.Str.{bytes_eq}
 use Rattle.std.proofs.ByRecursion.{All-push}
 use Rattle.std.proofs.lemmas.Slice.Eq.{bytes_eq-Decides}
@@ -131,7 +131,7 @@ module _ (m : Meaning) (l : Laws m) (round : RoundTrip) (limit rows : ℕ) where
   same-marked : (k : ℕ) (b : Built View) (c : Built (List Entry)) → SameBuild b c → SameBuild (marked k b) (marked k c)
   same-marked k b c h = record { ended = h.ended; marks = ap (λ ks. k ∷ ks) h.marks; done = h.done; holds = h.holds }
 
-  pub mirror_build : (us : List Member) (ds : List Made) (v : View) (es : List Entry) → All SoundMember us → All SoundMade ds → Holds v es → SameBuild (build_units m (stored limit rows) us ds v) (build_units m (ledger limit rows) us ds es)
+  pub mirror_build : (us : List Member) (ds : List Made) (v : View) (es : List Entry) → AllByRecursion SoundMember us → AllByRecursion SoundMade ds → Holds v es → SameBuild (build_units m (stored limit rows) us ds v) (build_units m (ledger limit rows) us ds es)
   mirror_build [] ds v es su sd h = record { ended = refl; marks = refl; done = refl; holds = h }
   mirror_build (u ∷ us) ds v es su sd h =
       by_kept (current m u (interfaces ds u) (artifact_in (v.at u.name.bytes))) (current m u (interfaces ds u) (row_of es u.name.bytes)) (ap (current m u (interfaces ds u)) (same_seen v es h u.name.bytes round)) refl
@@ -195,14 +195,14 @@ module _ (m : Meaning) (l : Laws m) (round : RoundTrip) (limit rows : ℕ) where
         said = λ i. Said.ended (h.ended i) (h.marks i);
       }
 
-  mirror_build_by : (d : Verdict) (vs : List Member) (held : Option (List Made)) (v : View) (es : List Entry) → All SoundMember vs → Holds v es → SameTurn (build_by m (stored limit rows) d vs held v) (build_by m (ledger limit rows) d vs held es)
+  mirror_build_by : (d : Verdict) (vs : List Member) (held : Option (List Made)) (v : View) (es : List Entry) → AllByRecursion SoundMember vs → Holds v es → SameTurn (build_by m (stored limit rows) d vs held v) (build_by m (ledger limit rows) d vs held es)
   mirror_build_by (missing n k) vs held v es s h = record { state = same_state vs (frozen held) v es h; said = refl }
   mirror_build_by (circle n) vs held v es s h = record { state = same_state vs (frozen held) v es h; said = refl }
   mirror_build_by (linked places) vs held v es s h =
       mirror_built vs (build_units m (stored limit rows) (in_order vs places) [] v) (build_units m (ledger limit rows) (in_order vs places) [] es) (mirror_build (in_order vs places) [] v es (all-in_order SoundMember vs places s) tt h)
   mirror_build_by nothing vs held v es s h = record { state = same_state vs (frozen held) v es h; said = refl }
 
-  mirror_stage : (g : Stage) (vs : List Member) (v : View) (es : List Entry) (c : Call) → All SoundMember vs → Holds v es → SameTurn (by_stage m (stored limit rows) g vs v c) (by_stage m (ledger limit rows) g vs es c)
+  mirror_stage : (g : Stage) (vs : List Member) (v : View) (es : List Entry) (c : Call) → AllByRecursion SoundMember vs → Holds v es → SameTurn (by_stage m (stored limit rows) g vs v c) (by_stage m (ledger limit rows) g vs es c)
   mirror_stage draft vs v es (put u) s h = mirror_put (put_answer u vs) u vs v es h
   mirror_stage draft vs v es (remove n) s h = mirror_remove (remove_answer n vs) n vs v es h
   mirror_stage draft vs v es freeze s h = record { state = same_state vs (frozen None) v es h; said = refl }
@@ -217,7 +217,7 @@ module _ (m : Meaning) (l : Laws m) (round : RoundTrip) (limit rows : ℕ) where
   mirror_stage (frozen held) vs v es thaw s h = record { state = same_state vs draft v es h; said = refl }
 
   -- a call over a store that holds the ledger's artifacts says what it says over the ledger
-  pub mirror_turn : (t : State View) (u : State (List Entry)) (c : Call) → All SoundMember t.project → SameState t u → SameTurn (turn m (stored limit rows) t c) (turn m (ledger limit rows) u c)
+  pub mirror_turn : (t : State View) (u : State (List Entry)) (c : Call) → AllByRecursion SoundMember t.project → SameState t u → SameTurn (turn m (stored limit rows) t c) (turn m (ledger limit rows) u c)
   mirror_turn t u c s h =
       subst (λ g. SameTurn (turn m (stored limit rows) t c) (by_stage m (ledger limit rows) g u.project u.shelf c)) h.stage
       (subst (λ vs. SameTurn (turn m (stored limit rows) t c) (by_stage m (ledger limit rows) t.stage vs u.shelf c)) h.project (mirror_stage t.stage t.project t.shelf u.shelf c s h.holds))

@@ -1,6 +1,6 @@
 -- How a build agrees with fresh translation.
 use Rattle.std.specs.Prelude.{◌≡◌, ℕ, true, List, [], length, take}
-use Rattle.std.specs.List.{AllZip, AllByRecursion as All}
+use Rattle.std.specs.List.{AllZip, AllByRecursion}
 use Rattle.names.specs.declared.name.Name.{Name}
 use Rattle.names.specs.declared.refusal.Fault.{Fault}
 use Rattle.product.specs.Parts.{Parts}

@@ -1,6 +1,6 @@
 -- What every run keeps.
 use Rattle.std.specs.Prelude.{◌≡◌, List, Some, None, Option}
-use Rattle.std.specs.List.{AllZip, AllByRecursion as All}
+use Rattle.std.specs.List.{AllZip, AllByRecursion}
 use Rattle.project.specs.Members.{Member}
 use Rattle.ledger.specs.Meaning.{Meaning}
 use Rattle.ledger.specs.Fresh.{Made, translated, fresh}
@@ -16,6 +16,6 @@ TrueStage m vs (frozen None) = Unit {0}
 TrueStage m vs (frozen (Some ds)) = (es : List Made) × (fresh m vs ≡ translated es) × AllZip (Like m) ds es
 
 pub record TrueState {S : Type 0} (m : Meaning) (sh : Shelf S) (t : State S) : Type 0 where
-  pub members : All SoundMember t.project
+  pub members : AllByRecursion SoundMember t.project
   pub shelf : TrueShelf m sh t.shelf
   pub stage : TrueStage m t.project t.stage

@@ -1,6 +1,6 @@
 -- The six calls over a shelf of artifacts, and runs of them from a new manager.
 use Rattle.std.specs.Prelude.{◌≡◌, ℕ, zero, suc, ◌<◌, Bool, true, false, cond, List, [], ◌∷◌, map, length, Some, None, Option, nat_lt}
-use Rattle.std.specs.List.{AllByRecursion as All}
+use Rattle.std.specs.List.{AllByRecursion}
 use Rattle.names.specs.declared.name.Name.{Name}
 use Rattle.project.specs.Members.{Member, with, without, put_answer, remove_answer}
 use Rattle.project.specs.Checked.{Verdict, missing, circle, linked, nothing, checked}
@@ -115,7 +115,7 @@ new s = record { project = []; stage = draft; shelf = s }
 
 -- a source is made of bytes
 abbrev pub ByteCall : Call → Type 0
-ByteCall (put u) = All (λ b. b < 256) u.source
+ByteCall (put u) = AllByRecursion (λ b. b < 256) u.source
 ByteCall (remove n) = Unit {0}
 ByteCall freeze = Unit {0}
 ByteCall build = Unit {0}

@@ -1,6 +1,6 @@
 -- What holds of units, of artifacts kept, and of shelves that keep.
 use Rattle.std.specs.Prelude.{◌≡◌, ℕ, ◌<◌, ◌≤◌, Bool, true, false, cond, List, length, Some, None, Option}
-use Rattle.std.specs.List.{AllByRecursion as All}
+use Rattle.std.specs.List.{AllByRecursion}
 use Rattle.std.specs.Str.{bytes_eq}
 use Rattle.product.specs.Parts.{Outcome, made, WithinRows}
 use Rattle.artifact.specs.Art.{Art, WithinArt}
@@ -11,7 +11,7 @@ use Rattle.ledger.specs.Shelf.{Shelf}
 
 -- a unit as put accepts it
 abbrev pub SoundMember : Member → Type 0
-SoundMember u = (length u.source ≤ 512) × All (λ b. b < 256) u.source × (length u.imports ≤ 4)
+SoundMember u = (length u.source ≤ 512) × AllByRecursion (λ b. b < 256) u.source × (length u.imports ≤ 4)
 
 -- an interface that a caller can hold
 abbrev pub SoundMade : Made → Type 0

@@ -1,7 +1,7 @@
 -- Interfaces and products as lists.
 use Rattle.std.specs.Prelude.{ℕ, ◌<◌, ◌≤◌, cond, List, [], ◌∷◌, length, Some, None, Option, FitsSigned}
 use Rattle.std.specs.Int.{w32}
-use Rattle.std.specs.List.{AllByRecursion as All}
+use Rattle.std.specs.List.{AllByRecursion}
 use Rattle.std.specs.Str.{bytes_eq}
 use Rattle.bounded.specs.Held.{held}
 use Rattle.names.specs.declared.refusal.Fault.{Fault}
@@ -45,7 +45,7 @@ SoundRow r = (r.kind < 256) × (FitsSigned w32 r.value × (r.line < 65536))
 
 -- an interface has at most twelve rows
 abbrev pub WithinRows : List Row → Type 0
-WithinRows rs = (length rs ≤ 12) × All SoundRow rs
+WithinRows rs = (length rs ≤ 12) × AllByRecursion SoundRow rs
 
 -- a reference of a unit with so many imports
 abbrev pub SoundReference : ℕ → Reference → Type 0
@@ -55,8 +55,8 @@ SoundReference imports r = (r.position ≤ imports) × (r.entry < 256)
 pub record Within (imports : ℕ) (p : Parts) : Type 0 where
   pub interface : WithinRows p.interface
   pub few_code : length p.code ≤ 384
-  pub code : All (λ b. b < 256) p.code
+  pub code : AllByRecursion (λ b. b < 256) p.code
   pub few_entries : length p.entries ≤ 12
-  pub entries : All (λ e. e < length p.code) p.entries
+  pub entries : AllByRecursion (λ e. e < length p.code) p.entries
   pub few_references : length p.references ≤ 32
-  pub references : All (SoundReference imports) p.references
+  pub references : AllByRecursion (SoundReference imports) p.references

@@ -1,7 +1,7 @@
 -- The laws of a translator, for echo.
 use Rattle.std.specs.Prelude.{◌≡◌, ℕ, ◌<◌, ◌≤◌, Bool, true, false, ◌&&◌, cond, List, [], ◌∷◌, ◌++◌, length, take, refl}
 use Rattle.std.proofs.Common.{subst, arith, lit<, lit≤, leb}
-use Rattle.std.specs.List.{AllByRecursion as All}
+use Rattle.std.specs.List.{AllByRecursion}
 use Rattle.std.proofs.ByRecursion.{All-push, All-take}
 use Rattle.std.proofs.lemmas.List.{length-append, length-take}
 use Rattle.product.specs.declared.row.Row.{Row}
@@ -24,7 +24,7 @@ echo_agrees source a b h =
     subst (λ n. Agree any (echo source a) (cond (leb (length source) 512 && leb n 4) (made (echoed source)) (faulted (record { code = 9; line = 0 })))) (lengths a b h) (agree_itself (echo source a))
 
 -- at most nine code bytes, the entry among them
-echo-within : (source : List ℕ) (n : ℕ) → All (λ b. b < 256) source → Within n (echoed source)
+echo-within : (source : List ℕ) (n : ℕ) → AllByRecursion (λ b. b < 256) source → Within n (echoed source)
 echo-within source n bytes =
     let long : length (take 8 source ++ 63 ∷ []) ≤ 9 = simp (length-append, length-take) (omega arith) in
     let some : 0 < length (take 8 source ++ 63 ∷ []) = simp (length-append, length-take) (omega arith) in
@@ -38,7 +38,7 @@ echo-within source n bytes =
       references = tt;
     }
 
-kept_by : (source : List ℕ) (n : ℕ) (t : Bool) → All (λ b. b < 256) source → Kept n (cond t (made (echoed source)) (faulted (record { code = 9; line = 0 })))
+kept_by : (source : List ℕ) (n : ℕ) (t : Bool) → AllByRecursion (λ b. b < 256) source → Kept n (cond t (made (echoed source)) (faulted (record { code = 9; line = 0 })))
 kept_by source n true bytes = echo-within source n bytes
 kept_by source n false bytes = tt
 

@@ -1,6 +1,6 @@
 -- What a translator owes.
 use Rattle.std.specs.Prelude.{◌≡◌, ℕ, ◌<◌, Bool, true, ◌&&◌, List, [], ◌∷◌, length, Ok, Err, Result, nat_le}
-use Rattle.std.specs.List.{AllByRecursion as All}
+use Rattle.std.specs.List.{AllByRecursion}
 use Rattle.names.specs.declared.refusal.Fault.{Fault}
 use Rattle.product.specs.declared.row.Row.{Row}
 use Rattle.product.specs.Parts.{Parts, Outcome, made, faulted, Within, WithinRows}
@@ -35,4 +35,4 @@ Kept imports (faulted f) = Unit {0}
 
 -- bytes and interfaces as a caller can hold them
 abbrev pub Held : List ℕ → List (List Row) → Type 0
-Held source imports = All (λ b. b < 256) source × All WithinRows imports
+Held source imports = AllByRecursion (λ b. b < 256) source × AllByRecursion WithinRows imports

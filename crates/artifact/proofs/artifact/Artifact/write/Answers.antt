@@ -1,6 +1,6 @@
 use Rattle.std.proofs.Common.{◌≡◌, ℕ, ◌≤◌, List, [], ◌∷◌, ◌++◌, length, take, vec_items, ap, ◌∙◌, arith, lit<, length-take}
 use lib.ListN.{length-map}
-use Rattle.std.specs.List.{AllByRecursion as All}
+use Rattle.std.specs.List.{AllByRecursion}
 use Rattle.std.proofs.ByRecursion.{All-map}
 use Rattle.bounded.specs.Held.{held}
 use Rattle.bounded.proofs.Few.{held_few}
@@ -17,7 +17,7 @@ use Rattle.artifact.proofs.Sizes.{Short, short_fits}
 use Rattle.artifact.proofs.Slots.{count_is}
 use Rattle.artifact.proofs.artifact.Artifact.write.Goals as goal
 
-all_of : (is : List Interface) → All (λ i. length (rows i) ≤ 12) is
+all_of : (is : List Interface) → AllByRecursion (λ i. length (rows i) ≤ 12) is
 all_of [] = tt
 all_of (i ∷ is) = (held_few i.list, all_of is)
 
