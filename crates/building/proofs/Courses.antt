@@ -1,5 +1,5 @@
 -- A build on its way: one unit more.
-use Rattle.std.proofs.Common.{◌≡◌, ℕ, zero, suc, ◌+◌, ◌%◌, ◌^◌, ◌<◌, ◌≤◌, Bool, true, false, cond, ◌||◌, eqb, ltb, List, [], ◌∷◌, ◌++◌, map, length, get_or, drop, Some, None, Ok, Err, Option, Result, sym, refl, ap, ◌∙◌, subst, append_assoc, append-nil, add-zero, add_assoc, add-suc, zero-add, arith, length-append}
+use Rattle.std.proofs.Common.{◌≡◌, ℕ, zero, suc, ◌+◌, ◌%◌, ◌^◌, ◌<◌, ◌≤◌, Bool, true, false, cond, ◌||◌, eqb, ltb, List, [], ◌∷◌, ◌++◌, length, get_or, drop, Some, Ok, Err, Result, sym, refl, ap, ◌∙◌, subst, append_assoc, append-nil, add-zero, add_assoc, add-suc, zero-add, arith, length-append}
 use mathlib.Core.List.{map-append}
 use Rattle.std.specs.Option.{option_to_list}
 use Rattle.std.specs.List.{slice_get}
@@ -12,10 +12,9 @@ use Rattle.ledger.specs.Shelf.{Shelf, accepted, Built, marked, build_units, tran
 use Rattle.ledger.specs.Stored.{View, stored}
 use Rattle.building.specs.declared.course.Halt.{Halt}
 use Rattle.building.specs.declared.mark.Mark.{Mark}
-use Rattle.building.specs.declared.mark.Mark.TheVariants.{Failed}
 use Rattle.building.specs.declared.unit.Stop.{Stop}
 use Rattle.building.specs.declared.unit.Stop.TheVariants.{Faulty, Unstored}
-use Rattle.building.specs.Step.{mark_number, mark_of, onward, UnitBuilt}
+use Rattle.building.specs.Step.{mark_number, onward, UnitBuilt}
 use Rattle.building.specs.Course.{stopped_at, numbers, ahead, gone}
 
 -- one mark more

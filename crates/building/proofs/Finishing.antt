@@ -1,10 +1,7 @@
 -- The table of products as a list.
-use Rattle.std.proofs.Common.{◌≡◌, ℕ, ◌+◌, ◌<◌, ◌≤◌, Bool, true, false, cond, List, [], ◌∷◌, ◌++◌, map, length, get_or, take, drop, vec_items, Decides, sym, refl, ap, ◌∙◌, arith}
-use Rattle.std.proofs.lemmas.List.{get_or-take, get_or-map, length-map, length-take-le, at_drop_more, at_drop_all}
-use Rattle.std.proofs.lemmas.Slice.Eq.{bytes_eq-Decides}
-use Rattle.std.proofs.lemmas.Bool.Decides.{same_from_decides}
+use Rattle.std.proofs.Common.{◌≡◌, ℕ, ◌+◌, ◌<◌, Bool, true, false, cond, ◌∷◌, map, length, get_or, drop, vec_items, sym, ap, ◌∙◌, arith}
+use Rattle.std.proofs.lemmas.List.{get_or-take, get_or-map, length-map, length-take-le, at_drop_more}
 use Rattle.names.specs.declared.name.Name.{Name}
-use Rattle.product.specs.declared.row.Row.{Row}
 use Rattle.project.specs.Members.{same}
 use Rattle.ledger.specs.Fresh.{Made, interface_of}
 use Rattle.building.specs.declared.table.Finished.{Finished}

@@ -16,7 +16,7 @@ use Rattle.ledger.proofs.Steps.{step_kept, step_made, step_faulty, step_unstored
 use Rattle.building.specs.declared.unit.Stop.{Stop}
 use Rattle.building.specs.declared.unit.Stop.TheVariants.{Faulty, Unstored}
 use Rattle.building.specs.declared.mark.Mark.TheVariants.{Kept, Translated}
-use Rattle.building.specs.Step.{current_to, with_product, MadeSays, onward, UnitBuilt, current_in}
+use Rattle.building.specs.Step.{current_to, with_product, MadeSays, UnitBuilt, current_in}
 
 module _ (m : Meaning) (limit rows : ℕ) (u : Member) (ds es : List Made) (v w : View) where
   -- the product was taken over

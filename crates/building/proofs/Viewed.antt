@@ -1,11 +1,10 @@
 -- A store's pairs after a put, in whatever order.
-use Rattle.std.proofs.Common.{◌≡◌, ℕ, suc, ◌+◌, ◌-◌, ◌<◌, ◌≤◌, Bool, true, false, cond, not, ◌&&◌, eqb, List, [], ◌∷◌, length, is_some, Some, None, Option, sym, refl, ap, ◌∙◌, subst, arith}
+use Rattle.std.proofs.Common.{◌≡◌, ℕ, suc, ◌+◌, Bool, true, false, cond, eqb, List, [], ◌∷◌, length, is_some, Some, sym, refl, ap, ◌∙◌, arith}
 use Rattle.std.specs.Str.{bytes_eq}
 use Rattle.std.proofs.lemmas.Slice.Eq.{bytes_eq-Decides}
-use Rattle.std.proofs.lemmas.Bool.{and_parts, not-true}
-use Rattle.store.specs.Pairs.{Pair, pair, lookup, has, without, once, SamePairs}
-use Rattle.store.specs.Says.{put_pairs, PutSays}
-use Rattle.ledger.specs.Stored.{View, view, view_put}
+use Rattle.store.specs.Pairs.{Pair, pair, lookup, has, without, SamePairs}
+use Rattle.store.specs.Says.{put_pairs}
+use Rattle.ledger.specs.Stored.{view, view_put}
 
 -- the other names keep their records
 lookup-without : (q p : List ℕ) (ps : List Pair) → bytes_eq q p ≡ false → lookup (without q ps) p ≡ lookup ps p

@@ -1,5 +1,5 @@
 -- A build on its way through the units in link order.
-use Rattle.std.specs.Prelude.{◌≡◌, ℕ, List, ◌++◌, map, Ok, Err, Result}
+use Rattle.std.specs.Prelude.{ℕ, List, ◌++◌, map, Ok, Err, Result}
 use Rattle.names.specs.declared.name.Name.{Name}
 use Rattle.ledger.specs.Fresh.{Made}
 use Rattle.ledger.specs.Shelf.{Ended, accepted, faulty, unstored, Built}

@@ -1,5 +1,5 @@
 -- What becomes of one unit.
-use Rattle.std.specs.Prelude.{◌≡◌, ℕ, ◌<◌, Bool, true, false, cond, List, ◌∷◌, Some, None, Ok, Err, Option, Result}
+use Rattle.std.specs.Prelude.{◌≡◌, ℕ, ◌<◌, Bool, cond, List, ◌∷◌, Some, None, Ok, Err, Option, Result}
 use Rattle.product.specs.declared.row.Row.{Row}
 use Rattle.product.specs.Parts.{Parts, Outcome, made, faulted}
 use Rattle.artifact.specs.Art.{Art}

@@ -1,18 +1,16 @@
 -- Products that importers cannot tell apart.
-use Rattle.std.proofs.Common.{◌≡◌, ℕ, ◌<◌, ◌≤◌, Bool, true, false, cond, ◌&&◌, List, [], ◌∷◌, ◌++◌, map, length, is_some, Some, None, Option, sym, refl, ap, ◌∙◌, subst, arith}
+use Rattle.std.proofs.Common.{◌≡◌, Bool, true, false, cond, List, [], ◌∷◌, map, length, is_some, Some, None, Option, sym, refl, ap, ◌∙◌, subst, arith}
 use Rattle.std.specs.List.{AllZip, AllByRecursion}
 use Rattle.std.specs.Str.{bytes_eq}
 use Rattle.std.proofs.lemmas.List.Elements.{AllZip-push}
-use Rattle.std.proofs.ByRecursion.{All-push}
 use Rattle.std.proofs.lemmas.Slice.Eq.{bytes_eq-Decides}
 use Rattle.std.proofs.lemmas.List.{length-map}
 use Rattle.std.proofs.lemmas.Bool.{true≢false, and_parts}
 use Rattle.names.specs.declared.name.Name.{Name}
 use Rattle.names.specs.declared.refusal.Fault.{Fault}
 use Rattle.product.specs.declared.row.Row.{Row}
-use Rattle.product.specs.declared.row.Reference.{Reference}
-use Rattle.product.specs.Parts.{Parts, Outcome, made, faulted, Within, WithinRows}
-use Rattle.translator.specs.Owed.{Alike, Agree, Kept, Held}
+use Rattle.product.specs.Parts.{Parts, Outcome, made, faulted, WithinRows}
+use Rattle.translator.specs.Owed.{Alike, Agree, Kept}
 use Rattle.artifact.specs.Art.{Art, WithinArt}
 use Rattle.project.specs.Members.{Member, same}
 use Rattle.ledger.specs.Meaning.{Meaning, Laws}

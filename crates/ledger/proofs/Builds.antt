@@ -1,16 +1,15 @@
 -- A build over true artifacts agrees with fresh translation, and leaves true artifacts.
-use Rattle.std.proofs.Common.{◌≡◌, ℕ, zero, suc, Bool, true, false, cond, List, [], ◌∷◌, ◌++◌, length, take, Some, None, Option, sym, refl, ap, ◌∙◌, subst}
+use Rattle.std.proofs.Common.{◌≡◌, ℕ, zero, suc, Bool, true, false, cond, List, [], ◌∷◌, length, take, Some, None, Option, sym, refl, ap, ◌∙◌, subst}
 use Rattle.std.specs.List.{AllZip, AllByRecursion}
 use Rattle.std.specs.Str.{bytes_eq}
 use Rattle.std.proofs.ByRecursion.{All-push}
-use Rattle.names.specs.declared.name.Name.{Name}
 use Rattle.product.specs.declared.row.Row.{Row}
-use Rattle.product.specs.Parts.{Parts, Outcome, made, faulted, Within}
+use Rattle.product.specs.Parts.{Parts, Outcome, made, faulted}
 use Rattle.translator.specs.Owed.{Alike, Agree}
-use Rattle.artifact.specs.Art.{Art, WithinArt}
+use Rattle.artifact.specs.Art.{Art}
 use Rattle.project.specs.Members.{Member}
 use Rattle.ledger.specs.Meaning.{Meaning, Laws}
-use Rattle.ledger.specs.Fresh.{Made, interfaces, and_unit, Fresh, failed, translated, fresh_units}
+use Rattle.ledger.specs.Fresh.{Made, interfaces, and_unit, Fresh, failed, fresh_units}
 use Rattle.ledger.specs.Shelf.{Shelf, current, art_of, Ended, accepted, faulty, unstored, Built, marked, stopped, build_units}
 use Rattle.ledger.specs.Sound.{SoundMember, SoundMade, TrueArt, TrueShelf, Keeps}
 use Rattle.ledger.specs.Agrees.{LikeParts, Like, AgreesBy, Agrees}

@@ -1,22 +1,21 @@
 -- Every call keeps the artifacts and products true, so that what is linked is what fresh translation links to.
-use Rattle.std.proofs.Common.{◌≡◌, ℕ, zero, suc, ◌<◌, ◌≤◌, Bool, true, false, cond, not, ◌&&◌, ltb, leb, List, [], ◌∷◌, ◌++◌, map, length, is_some, Some, None, Option, sym, refl, ap, ◌∙◌, subst, arith}
+use Rattle.std.proofs.Common.{◌≡◌, ℕ, zero, suc, ◌<◌, ◌≤◌, Bool, true, false, cond, not, ◌&&◌, ltb, leb, List, [], ◌∷◌, map, length, is_some, Some, None, Option, sym, refl, ap, ◌∙◌, arith}
 use Rattle.std.specs.Option.{option_to_list}
 use Rattle.std.specs.List.{AllZip, AllByRecursion, slice_get}
 use Rattle.std.specs.Str.{bytes_eq}
 use Rattle.std.proofs.ByRecursion.{All-append}
 use Rattle.std.proofs.lemmas.Bool.{true≢false, ltb-false}
 use Rattle.names.specs.declared.name.Name.{Name}
-use Rattle.artifact.specs.Art.{Art}
 use Rattle.image.specs.Picture.{Units, image_bytes}
 use Rattle.project.specs.Members.{Member, same, at, with, without, put_answer, remove_answer}
 use Rattle.project.specs.Checked.{Verdict, missing, circle, linked, nothing, checked}
 use Rattle.ledger.specs.Meaning.{Meaning, Laws}
-use Rattle.ledger.specs.Fresh.{Made, in_order, Fresh, unlinked, failed, translated, fresh_units, fresh_by, fresh}
+use Rattle.ledger.specs.Fresh.{Made, in_order, fresh_by}
 use Rattle.ledger.specs.Shelf.{Shelf, Ended, accepted, faulty, unstored, Built, build_units}
-use Rattle.ledger.specs.Sound.{SoundMember, SoundMade, TrueArt, TrueShelf, Keeps}
+use Rattle.ledger.specs.Sound.{SoundMember, TrueArt, TrueShelf, Keeps}
 use Rattle.ledger.specs.Agrees.{Like, AgreesBy, Agrees}
-use Rattle.ledger.specs.Linking.{Plain, plain, Linking, broken, whole, linking, ordered_by, in_link_order, linked_by, fresh_linking}
-use Rattle.ledger.specs.Runs.{Call, put, remove, freeze, build, link, thaw, Stage, draft, frozen, State, Said, done, refused, unordered, ended, unresolved, image, astray, Turned, put_by, remove_by, products, built_by, build_by, image_or, link_said, by_stage, turn, run, new, ByteCall}
+use Rattle.ledger.specs.Linking.{plain, Linking, broken, whole, linking, in_link_order, linked_by, fresh_linking}
+use Rattle.ledger.specs.Runs.{Call, put, remove, freeze, build, link, thaw, Stage, draft, frozen, State, refused, image, put_by, remove_by, products, built_by, build_by, image_or, link_said, by_stage, turn, run, new, ByteCall}
 use Rattle.ledger.specs.Kept.{TrueStage, TrueState}
 use Rattle.ledger.proofs.Builds.{build_shows}
 

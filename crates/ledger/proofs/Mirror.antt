@@ -1,5 +1,5 @@
 -- Over a store that holds the ledger's artifacts every call says what it says over the ledger, and the store goes on holding them.
-use Rattle.std.proofs.Common.{◌≡◌, ℕ, zero, suc, ◌+◌, ◌-◌, ◌<◌, ◌≤◌, Bool, true, false, cond, ◌&&◌, ◌||◌, ltb, List, [], ◌∷◌, ◌++◌, length, is_some, Some, None, Option, sym, refl, ap, ◌∙◌, subst, arith}
+use Rattle.std.proofs.Common.{◌≡◌, ℕ, zero, suc, ◌+◌, ◌-◌, Bool, true, false, cond, List, [], ◌∷◌, length, is_some, Some, None, Option, sym, refl, ap, ◌∙◌, subst, arith}
 use Rattle.std.specs.Option.{option_map}
 use Rattle.std.specs.List.{AllByRecursion}
 use Rattle.std.specs.Str.{bytes_eq}
@@ -7,23 +7,22 @@ use Rattle.std.proofs.ByRecursion.{All-push}
 use Rattle.std.proofs.lemmas.Slice.Eq.{bytes_eq-Decides}
 use Rattle.store.specs.Says.{put_number}
 use Rattle.names.specs.declared.name.Name.{Name}
-use Rattle.product.specs.declared.row.Row.{Row}
 use Rattle.product.specs.Parts.{Parts, Outcome, made, faulted}
-use Rattle.artifact.specs.Art.{Art, WithinArt, artifact_bytes, read}
+use Rattle.artifact.specs.Art.{Art, WithinArt, artifact_bytes}
 use Rattle.artifact.specs.Round.{RoundTrip}
 use Rattle.project.specs.Members.{Member, put_answer, remove_answer}
 use Rattle.project.specs.Checked.{Verdict, missing, circle, linked, nothing, checked}
 use Rattle.ledger.specs.Meaning.{Meaning, Laws}
 use Rattle.ledger.specs.Fresh.{Made, interfaces, and_unit, in_order}
-use Rattle.ledger.specs.Shelf.{Shelf, current, art_of, Ended, accepted, faulty, unstored, Built, marked, stopped, build_units}
+use Rattle.ledger.specs.Shelf.{current, art_of, faulty, unstored, Built, marked, stopped, build_units}
 use Rattle.ledger.specs.Sound.{SoundMember, SoundMade}
 use Rattle.ledger.specs.Stored.{View, view_put, view_drop, artifact_in, stored}
 use Rattle.ledger.specs.Ledger.{Entry, row_of, rows_but, with_row, ledger}
 use Rattle.ledger.specs.Mirrored.{Once, Holds, SameBuild, SameState, SameTurn}
-use Rattle.ledger.specs.Runs.{Call, put, remove, freeze, build, link, thaw, Stage, draft, frozen, State, Said, Turned, put_by, remove_by, products, built_by, build_by, link_said, by_stage, turn, run, new, ByteCall}
+use Rattle.ledger.specs.Runs.{Call, put, remove, freeze, build, link, thaw, Stage, draft, frozen, State, Said, put_by, remove_by, products, built_by, build_by, by_stage, turn}
 use Rattle.ledger.proofs.Alike.{current_some, sound_art}
 use Rattle.ledger.proofs.Shelves.{but_gone, with_back, rows_but_itself}
-use Rattle.ledger.proofs.Keeping.{all-with, all_without, all-in_order, put-within}
+use Rattle.ledger.proofs.Keeping.{all-in_order}
 
 some_mapped : {X Y : Type 0} (f : X → Y) (o : Option X) → is_some (option_map f o) ≡ is_some o
 some_mapped f (Some x) = refl

@@ -1,15 +1,11 @@
 -- The ledger and a store are shelves that keep, and a store that holds the ledger's artifacts goes on doing so.
-use Rattle.std.proofs.Common.{◌≡◌, ℕ, zero, suc, ◌+◌, ◌-◌, ◌<◌, ◌≤◌, Bool, true, false, cond, ◌&&◌, List, [], ◌∷◌, length, is_some, Some, None, Option, sym, refl, ap, ◌∙◌, subst, inl, inr, arith}
-use Rattle.std.specs.Option.{option_map}
-use Rattle.std.specs.List.{AllByRecursion}
+use Rattle.std.proofs.Common.{◌≡◌, ℕ, Bool, true, false, cond, List, [], ◌∷◌, Some, None, sym, refl, ap, ◌∙◌}
 use Rattle.std.specs.Str.{bytes_eq}
 use Rattle.std.proofs.lemmas.Slice.Eq.{bytes_eq-Decides}
-use Rattle.std.proofs.lemmas.Bool.{true≢false, both_ways, cases_Bool}
-use Rattle.artifact.specs.Art.{Art, WithinArt, artifact_bytes, read}
+use Rattle.artifact.specs.Art.{Art, WithinArt, artifact_bytes}
 use Rattle.artifact.specs.Round.{RoundTrip}
-use Rattle.ledger.specs.Shelf.{Shelf}
 use Rattle.ledger.specs.Sound.{Keeps}
-use Rattle.ledger.specs.Stored.{View, view_put, view_drop, artifact_in, stored}
+use Rattle.ledger.specs.Stored.{View, artifact_in, stored}
 use Rattle.ledger.specs.Ledger.{Entry, row_of, rows_but, with_row, ledger}
 
 pub same_itself : (q : List ℕ) → bytes_eq q q ≡ true

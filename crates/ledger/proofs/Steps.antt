@@ -1,5 +1,5 @@
 -- One unit of a build, by what is found for it.
-use Rattle.std.proofs.Common.{◌≡◌, ℕ, zero, suc, List, [], ◌∷◌, Some, None, Option, refl, ap, ◌∙◌}
+use Rattle.std.proofs.Common.{◌≡◌, ℕ, zero, suc, List, ◌∷◌, Some, None, Option, refl, ap, ◌∙◌}
 use Rattle.names.specs.declared.refusal.Fault.{Fault}
 use Rattle.product.specs.Parts.{Parts, Outcome, made, faulted}
 use Rattle.artifact.specs.Art.{Art}

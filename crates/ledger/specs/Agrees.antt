@@ -1,12 +1,10 @@
 -- How a build agrees with fresh translation.
-use Rattle.std.specs.Prelude.{◌≡◌, ℕ, true, List, [], length, take}
-use Rattle.std.specs.List.{AllZip, AllByRecursion}
-use Rattle.names.specs.declared.name.Name.{Name}
-use Rattle.names.specs.declared.refusal.Fault.{Fault}
+use Rattle.std.specs.Prelude.{◌≡◌, ℕ, true, List, length, take}
+use Rattle.std.specs.List.{AllZip}
 use Rattle.product.specs.Parts.{Parts}
 use Rattle.project.specs.Members.{Member}
 use Rattle.ledger.specs.Meaning.{Meaning}
-use Rattle.ledger.specs.Fresh.{Made, Fresh, failed, translated, fresh_units}
+use Rattle.ledger.specs.Fresh.{Made, failed, translated, fresh_units}
 use Rattle.ledger.specs.Shelf.{Ended, accepted, faulty, unstored, Built}
 
 -- products with the same interface and equal code, entries and references

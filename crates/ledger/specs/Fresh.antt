@@ -1,11 +1,11 @@
 -- Fresh translation: the units in link order, each with the fresh interfaces of its imports, until the first fault.
-use Rattle.std.specs.Prelude.{ℕ, Bool, true, false, cond, List, [], ◌∷◌, ◌++◌, map, Some, None, Option}
+use Rattle.std.specs.Prelude.{ℕ, cond, List, [], ◌∷◌, ◌++◌, map}
 use Rattle.std.specs.List.{slice_get}
 use Rattle.std.specs.Option.{option_to_list}
 use Rattle.names.specs.declared.name.Name.{Name}
 use Rattle.names.specs.declared.refusal.Fault.{Fault}
 use Rattle.product.specs.declared.row.Row.{Row}
-use Rattle.product.specs.Parts.{Parts, Outcome, made, faulted}
+use Rattle.product.specs.Parts.{Parts, made, faulted}
 use Rattle.project.specs.Members.{Member, same}
 use Rattle.project.specs.Checked.{Verdict, missing, circle, linked, nothing, checked}
 use Rattle.ledger.specs.Meaning.{Meaning}

@@ -1,5 +1,5 @@
 -- What every run keeps.
-use Rattle.std.specs.Prelude.{◌≡◌, List, Some, None, Option}
+use Rattle.std.specs.Prelude.{◌≡◌, List, Some, None}
 use Rattle.std.specs.List.{AllZip, AllByRecursion}
 use Rattle.project.specs.Members.{Member}
 use Rattle.ledger.specs.Meaning.{Meaning}

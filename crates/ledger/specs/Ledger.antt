@@ -1,5 +1,5 @@
 -- The ledger: rows of name and artifact, fed the calls' arguments alone.
-use Rattle.std.specs.Prelude.{ℕ, Bool, true, false, cond, List, [], ◌∷◌, length, is_some, Some, None, Option}
+use Rattle.std.specs.Prelude.{ℕ, cond, List, [], ◌∷◌, length, is_some, Some, None, Option}
 use Rattle.std.specs.Str.{bytes_eq}
 use Rattle.store.specs.Says.{put_number}
 use Rattle.artifact.specs.Art.{Art, artifact_bytes}

@@ -1,5 +1,5 @@
 -- A store that holds exactly the ledger's artifacts.
-use Rattle.std.specs.Prelude.{◌≡◌, ℕ, Bool, true, cond, List, [], ◌∷◌, length, Some, None}
+use Rattle.std.specs.Prelude.{◌≡◌, ℕ, List, [], ◌∷◌, length, Some, None}
 use Rattle.std.specs.Option.{option_map}
 use Rattle.artifact.specs.Art.{Art, WithinArt, artifact_bytes}
 use Rattle.ledger.specs.Shelf.{Built}

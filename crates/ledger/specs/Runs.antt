@@ -1,5 +1,5 @@
 -- The six calls over a shelf of artifacts, and runs of them from a new manager.
-use Rattle.std.specs.Prelude.{◌≡◌, ℕ, zero, suc, ◌<◌, Bool, true, false, cond, List, [], ◌∷◌, map, length, Some, None, Option, nat_lt}
+use Rattle.std.specs.Prelude.{ℕ, zero, suc, ◌<◌, cond, List, [], ◌∷◌, map, length, Some, None, Option, nat_lt}
 use Rattle.std.specs.List.{AllByRecursion}
 use Rattle.names.specs.declared.name.Name.{Name}
 use Rattle.project.specs.Members.{Member, with, without, put_answer, remove_answer}

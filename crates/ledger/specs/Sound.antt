@@ -1,8 +1,8 @@
 -- What holds of units, of artifacts kept, and of shelves that keep.
-use Rattle.std.specs.Prelude.{◌≡◌, ℕ, ◌<◌, ◌≤◌, Bool, true, false, cond, List, length, Some, None, Option}
+use Rattle.std.specs.Prelude.{◌≡◌, ℕ, ◌<◌, ◌≤◌, cond, List, length, Some, None}
 use Rattle.std.specs.List.{AllByRecursion}
 use Rattle.std.specs.Str.{bytes_eq}
-use Rattle.product.specs.Parts.{Outcome, made, WithinRows}
+use Rattle.product.specs.Parts.{made, WithinRows}
 use Rattle.artifact.specs.Art.{Art, WithinArt}
 use Rattle.project.specs.Members.{Member}
 use Rattle.ledger.specs.Meaning.{Meaning}

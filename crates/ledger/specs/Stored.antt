@@ -1,5 +1,5 @@
 -- Artifacts kept as bytes in a store.
-use Rattle.std.specs.Prelude.{ℕ, ◌+◌, ◌-◌, Bool, true, false, cond, List, [], length, is_some, Some, None, Option}
+use Rattle.std.specs.Prelude.{ℕ, ◌+◌, ◌-◌, cond, List, length, is_some, Some, None, Option}
 use Rattle.std.specs.Str.{bytes_eq}
 use Rattle.store.specs.Pairs.{Pair, lookup}
 use Rattle.store.specs.Says.{put_number}

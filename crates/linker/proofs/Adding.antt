@@ -1,5 +1,5 @@
 -- One unit more in an image.
-use Rattle.std.proofs.Common.{◌≡◌, ℕ, ◌<◌, ◌≤◌, Bool, true, false, cond, ◌&&◌, ltb, leb, List, [], ◌∷◌, map, length, is_some, Some, None, Option, sym, refl, ap, ◌∙◌}
+use Rattle.std.proofs.Common.{◌≡◌, ℕ, ◌<◌, ◌≤◌, Bool, cond, ◌&&◌, ltb, leb, List, map, length, is_some, Some, None, Option, sym, ap, ◌∙◌}
 use Rattle.std.proofs.lemmas.Bool.{true≢false, lt-ltb, le-leb}
 use Rattle.names.specs.declared.name.Name.{Name}
 use Rattle.product.specs.Parts.{Parts}

@@ -1,19 +1,18 @@
 -- Units put together one after the other.
-use Rattle.std.proofs.Common.{◌≡◌, ℕ, zero, suc, ◌+◌, ◌<◌, ◌≤◌, Bool, true, false, cond, List, [], ◌∷◌, ◌++◌, map, length, get_or, take, drop, Some, None, Ok, Err, Option, Result, unwrap_or, sym, refl, ap, ◌∙◌, subst, inl, inr, add-zero, add_assoc, add-one, one-add, arith}
+use Rattle.std.proofs.Common.{◌≡◌, ℕ, zero, suc, ◌+◌, ◌<◌, ◌≤◌, cond, List, [], ◌∷◌, ◌++◌, map, length, get_or, take, drop, Some, None, Ok, Err, Option, Result, unwrap_or, sym, refl, ap, ◌∙◌, subst, inl, inr, add-zero, add_assoc, one-add, arith}
 use Rattle.std.specs.Option.{option_map, option_to_list}
 use Rattle.std.specs.List.{slice_get}
 use Rattle.std.proofs.lemmas.List.{take_more, take_all, drop_more, drop_all, length-map, length-take-le}
 use Rattle.std.proofs.lemmas.Option.{slice_get-get_or, slice_get_past}
 use Rattle.std.proofs.lemmas.Bool.{cases_lt}
 use Rattle.names.specs.declared.name.Name.{Name}
-use Rattle.order.specs.Dependency.{first}
 use Rattle.product.specs.declared.row.Reference.{Reference}
 use Rattle.image.specs.declared.target.Target.{Target}
 use Rattle.image.specs.Picture.{Units, with_unit}
 use Rattle.project.specs.Members.{Member, same, at}
 use Rattle.project.specs.Checked.{names}
 use Rattle.ledger.specs.Fresh.{Made, in_order}
-use Rattle.ledger.specs.Linking.{Plain, plain, place_of, target_place, resolved, targets, units_of, Linking, broken, whole, lacking, link_by, tested_from, linking}
+use Rattle.ledger.specs.Linking.{Plain, plain, place_of, target_place, resolved, targets, units_of, broken, whole, lacking, link_by, tested_from, linking}
 use Rattle.linker.specs.Place.{named, named_by, goal, resolved_by}
 use Rattle.linker.specs.declared.assembly.Missing.{Missing}
 use Rattle.linker.specs.Assembled.{entries_of, targets_of, Added}

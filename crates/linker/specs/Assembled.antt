@@ -1,5 +1,5 @@
 -- What putting units together answers and leaves.
-use Rattle.std.specs.Prelude.{◌≡◌, ℕ, List, [], ◌∷◌, map, length, take, Some, None, Ok, Err, Option, Result}
+use Rattle.std.specs.Prelude.{◌≡◌, ℕ, List, map, Some, None, Ok, Err, Result}
 use Rattle.names.specs.declared.name.Name.{Name}
 use Rattle.image.specs.declared.target.Target.{Target}
 use Rattle.image.specs.Picture.{Units, with_unit}

@@ -1,5 +1,5 @@
 -- The units in link order by their names.
-use Rattle.std.specs.Prelude.{ℕ, zero, suc, Bool, List, [], ◌∷◌, map, Some, None, Option}
+use Rattle.std.specs.Prelude.{ℕ, zero, suc, List, Some, None, Option}
 use Rattle.std.specs.Option.{unwrap_or}
 use Rattle.std.specs.List.{slice_get}
 use Rattle.names.specs.declared.name.Name.{Name}

@@ -1,9 +1,9 @@
-use Rattle.std.proofs.Common.{◌≡◌, ◌<◌, length, get_or, drop, Ok, Err, sym, refl, ap, ◌∙◌, arith}
+use Rattle.std.proofs.Common.{◌≡◌, ◌<◌, length, Ok, Err, sym, ap, ◌∙◌, arith}
 use Rattle.std.proofs.lemmas.Result.{err_from_is_err_and}
 use Rattle.bounded.specs.Held.{held}
 use Rattle.project.specs.Members.{members}
 use Rattle.ledger.specs.Meaning.{meaning}
-use Rattle.ledger.specs.Stored.{view, stored}
+use Rattle.ledger.specs.Stored.{view}
 use Rattle.building.specs.Finish.{done_list}
 use Rattle.building.specs.Course.{ended_of, numbers}
 use Rattle.building.proofs.Courses.{course_goes, course_ends}

@@ -1,4 +1,4 @@
-use Rattle.std.proofs.Common.{◌≡◌, ◌≤◌, [], length, drop}
+use Rattle.std.proofs.Common.{◌≡◌, ◌≤◌, length, drop}
 use Rattle.bounded.specs.Held.{held}
 use Rattle.project.specs.Members.{members}
 use Rattle.ledger.specs.Meaning.{meaning}

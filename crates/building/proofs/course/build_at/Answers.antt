@@ -1,4 +1,4 @@
-use Rattle.std.proofs.Common.{◌≡◌, Some, sym, refl, ap, ◌∙◌}
+use Rattle.std.proofs.Common.{refl}
 use Rattle.bounded.specs.Held.{held}
 use Rattle.project.specs.Members.{member, members}
 use Rattle.ledger.specs.Meaning.{meaning}

@@ -1,4 +1,4 @@
-use Rattle.std.proofs.Common.{◌≡◌, length, sym, refl, ap, ◌∙◌, subst}
+use Rattle.std.proofs.Common.{◌∙◌, subst}
 use Rattle.names.specs.Refusals.{answer}
 use Rattle.store.specs.Says.{PutSays}
 use Rattle.artifact.specs.Art.{art, artifact_bytes}

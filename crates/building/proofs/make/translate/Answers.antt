@@ -1,4 +1,4 @@
-use Rattle.std.proofs.Common.{◌≡◌, sym, refl, ap, ◌∙◌, subst}
+use Rattle.std.proofs.Common.{refl, ap, ◌∙◌}
 use Rattle.product.specs.Parts.{parts}
 use Rattle.translator.specs.Owed.{shown}
 use Rattle.building.proofs.make.translate.Goals as goal

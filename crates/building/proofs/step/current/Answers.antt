@@ -1,6 +1,6 @@
-use Rattle.std.proofs.Common.{◌≡◌, true, false, take, Some, None, Option, sym, refl, ap, ◌∙◌}
+use Rattle.std.proofs.Common.{◌≡◌, true, false, take, Some, None, sym, ap, ◌∙◌}
 use native.Mathlib.Nat.{sub-zero}
-use Rattle.artifact.specs.Art.{Art, art, read}
+use Rattle.artifact.specs.Art.{art, read}
 use Rattle.building.specs.Step.{current_to}
 use Rattle.building.proofs.Found.{got_none, got_some, current_by}
 use Rattle.building.proofs.step.current.Goals as goal

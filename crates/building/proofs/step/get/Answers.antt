@@ -1,4 +1,4 @@
-use Rattle.std.proofs.Common.{◌≡◌, ℕ, ◌≤◌, length, IfSome, Some, None, Option, sym, refl, ap, ◌∙◌, subst}
+use Rattle.std.proofs.Common.{◌≡◌, ℕ, ◌≤◌, length, IfSome, Some, None, Option, subst}
 use Rattle.store.specs.Pairs.{lookup}
 use Rattle.artifact.proofs.Rounds.{round_trip}
 use Rattle.building.specs.Finish.{InRoom}

@@ -1,6 +1,5 @@
-use Rattle.std.proofs.Common.{◌≡◌, ◌&&◌, sym, refl, ap, ◌∙◌}
+use Rattle.std.proofs.Common.{◌&&◌, ap, ◌∙◌}
 use Rattle.std.specs.Str.{bytes_eq}
-use Rattle.bounded.specs.Held.{held}
 use Rattle.artifact.specs.Art.{art}
 use Rattle.ledger.specs.Shelf.{all_same}
 use Rattle.building.proofs.step.is_current.Goals as goal

@@ -1,4 +1,4 @@
-use Rattle.std.proofs.Common.{◌≡◌, take, sym, refl, ap, ◌∙◌, subst}
+use Rattle.std.proofs.Common.{take, ap, ◌∙◌}
 use native.Mathlib.Nat.{sub-zero}
 use Rattle.artifact.specs.Art.{art, read}
 use Rattle.building.proofs.Found.{got-found}

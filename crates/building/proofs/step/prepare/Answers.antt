@@ -1,11 +1,9 @@
-use Rattle.std.proofs.Common.{◌≡◌, ◌+◌, ◌<◌, ◌≤◌, cond, map, length, get_or, take, sym, refl, ap, ◌∙◌, subst, arith}
+use Rattle.std.proofs.Common.{map, length, get_or, ap, ◌∙◌, arith}
 use Rattle.std.proofs.lemmas.List.{take_all}
-use Rattle.std.proofs.lemmas.Bool.{le-leb}
 use Rattle.bounded.specs.Held.{held}
 use Rattle.bounded.proofs.Few.{held_few}
-use Rattle.names.specs.declared.name.Name.{Name}
 use Rattle.product.specs.Parts.{rows, no_parts}
-use Rattle.artifact.specs.Art.{Art, art}
+use Rattle.artifact.specs.Art.{art}
 use Rattle.ledger.specs.Fresh.{interface_of}
 use Rattle.building.specs.Finish.{done_list}
 use Rattle.building.proofs.Prepared.{one_import}

@@ -1,4 +1,4 @@
-use Rattle.std.proofs.Common.{◌≡◌, true, false, sym, refl, ap, ◌∙◌, arith}
+use Rattle.std.proofs.Common.{true, false, arith}
 use Rattle.building.proofs.Comparing.{unequal, by_answer, all_compared}
 use Rattle.building.proofs.step.same_imports.Goals as goal
 

@@ -1,14 +1,12 @@
-use Rattle.std.proofs.Common.{◌≡◌, ◌≤◌, length, Some, None, Option, sym, refl, ap, ◌∙◌, subst, arith}
-use Rattle.product.specs.Parts.{parts}
-use Rattle.artifact.specs.Art.{Art, art}
+use Rattle.std.proofs.Common.{Some, sym, refl, ap, ◌∙◌}
+use Rattle.artifact.specs.Art.{art}
 use Rattle.project.specs.Members.{member}
 use Rattle.store.specs.Pairs.{lookup}
 use Rattle.ledger.specs.Meaning.{meaning}
 use Rattle.ledger.specs.Fresh.{interfaces}
 use Rattle.ledger.specs.Shelf.{current}
-use Rattle.ledger.specs.Stored.{view, artifact_in, stored}
+use Rattle.ledger.specs.Stored.{view, artifact_in}
 use Rattle.building.specs.Finish.{done_list, in_buffer}
-use Rattle.building.specs.Step.{current_to, current_in}
 use Rattle.building.proofs.Units.{unit_kept, taken, few_more, current_is, from_here}
 use Rattle.building.proofs.unit.build_unit.Goals as goal
 

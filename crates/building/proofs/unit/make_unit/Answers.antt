@@ -1,4 +1,4 @@
-use Rattle.std.proofs.Common.{◌≡◌, length, sym, refl, ap, ◌∙◌, arith}
+use Rattle.std.proofs.Common.{refl, arith}
 use Rattle.artifact.specs.Art.{art}
 use Rattle.ledger.specs.Meaning.{meaning}
 use Rattle.ledger.specs.Stored.{view}

@@ -1,8 +1,8 @@
-use Rattle.std.proofs.Common.{◌≡◌, ℕ, ◌<◌, ◌≤◌, not, List, length, Some, None, sym, ap, ◌∙◌, subst, arith}
+use Rattle.std.proofs.Common.{◌≡◌, ℕ, ◌≤◌, not, List, length, sym, ap, ◌∙◌, subst, arith}
 use Rattle.std.specs.Option.{option_map}
 use Rattle.bounded.specs.Held.{held}
 use Rattle.bounded.proofs.Few.{held_few}
-use Rattle.product.specs.Parts.{Parts, parts}
+use Rattle.product.specs.Parts.{parts}
 use Rattle.product.specs.declared.row.Reference.{Reference}
 use Rattle.order.proofs.Least.{first_below}
 use Rattle.image.specs.declared.target.Target.{Target}

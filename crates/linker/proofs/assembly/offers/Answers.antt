@@ -1,4 +1,4 @@
-use Rattle.std.proofs.Common.{◌≡◌, length, ap, ◌∙◌}
+use Rattle.std.proofs.Common.{length, ap, ◌∙◌}
 use Rattle.product.specs.Parts.{parts}
 use Rattle.building.specs.Finish.{done_list}
 use Rattle.linker.proofs.Listing.{offered, offered_none}

@@ -1,4 +1,4 @@
-use Rattle.std.proofs.Common.{◌≡◌, false, get_or, sym, refl, ap, ◌∙◌, arith, below_more}
+use Rattle.std.proofs.Common.{◌≡◌, false, get_or, sym, ap, ◌∙◌, arith, below_more}
 use Rattle.order.proofs.Least.{first_is, first_none}
 use Rattle.names.specs.declared.name.Name.{Name}
 use Rattle.project.specs.Members.{same}

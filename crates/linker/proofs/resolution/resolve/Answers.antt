@@ -1,8 +1,7 @@
-use Rattle.std.proofs.Common.{◌≡◌, ℕ, ◌<◌, List, [], ◌∷◌, ◌++◌, map, length, get_or, take, sym, refl, ap, ◌∙◌, arith}
+use Rattle.std.proofs.Common.{◌≡◌, ◌<◌, [], ◌∷◌, ◌++◌, map, length, get_or, take, sym, ap, ◌∙◌, arith}
 use Rattle.std.proofs.lemmas.List.{map_more, length-map, length-take-le, take_all}
 use Rattle.bounded.specs.Held.{held}
 use Rattle.product.specs.declared.row.Reference.{Reference}
-use Rattle.image.specs.declared.target.Target.{Target}
 use Rattle.project.proofs.Listed.{grown}
 use Rattle.linker.specs.Place.{resolved_by}
 use Rattle.linker.proofs.resolution.resolve.Goals as goal

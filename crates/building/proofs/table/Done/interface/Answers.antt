@@ -1,4 +1,4 @@
-use Rattle.std.proofs.Common.{◌≡◌, get_or, vec_items, sym, refl, ap, ◌∙◌, arith}
+use Rattle.std.proofs.Common.{◌≡◌, vec_items, sym, ap, ◌∙◌, arith}
 use Rattle.std.proofs.lemmas.List.{at_drop_all, nil_from_length, get_or_read_under}
 use Rattle.product.specs.Parts.{rows}
 use Rattle.ledger.specs.Fresh.{interface_of}
