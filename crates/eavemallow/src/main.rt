@@ -3,12 +3,12 @@
 
 mod files;
 mod instructions;
+mod link_order;
 mod listing;
-mod order;
 mod picture;
 mod script;
 mod show;
-mod store;
+mod store_run;
 mod translate;
 mod usage;
 
@@ -28,7 +28,7 @@ fn main(rt: HostRuntime) -> anyhow::Result<()> {
 
 fn run(rt: &HostRuntime, word: &str, rest: &[String]) -> anyhow::Result<()> {
     if word == "order" {
-        return order::run(rt, rest);
+        return link_order::run(rt, rest);
     }
     if word == "translate" {
         return translate::run(rt, rest);
@@ -37,7 +37,7 @@ fn run(rt: &HostRuntime, word: &str, rest: &[String]) -> anyhow::Result<()> {
         return show::run(rt, rest);
     }
     if word == "store" {
-        return store::run(rt, rest);
+        return store_run::run(rt, rest);
     }
     usage::print(rt)?;
     if word == "help" {
