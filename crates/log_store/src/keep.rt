@@ -21,9 +21,7 @@ impl Store for LogStore {
 
     ghost pairs = { λ s. pairs_of s };
 
-    ghost sound = { λ _. Unit {0} };
-
-    ghost apart = { λ s _. s.apart };
+    ghost apart = { λ s. s.apart };
 
     fn most() -> usize {
         LONGEST

@@ -19,9 +19,7 @@ impl Store for SlotStore {
 
     ghost pairs = { λ s. slot_pairs s.rows s.area.items };
 
-    ghost sound = { λ _. Unit {0} };
-
-    ghost apart = { λ s _. s.apart };
+    ghost apart = { λ s. s.apart };
 
     fn most() -> usize {
         LONGEST

@@ -8,9 +8,8 @@ use crate::contract::Store;
 
 // Makes the call. After any calls that led to the store's pairs, the answer is the one due, and the pairs are those that the calls with this one lead to.
 pub fn act<S: Store>(store: &mut S, call: &Call, buffer: &mut [u8]) -> Answer
-    ensures answers { S.Store.sound store.old → (past : List Call) → Stands past (S.Store.pairs store.old) → Answers S.Store.limit (S.Store.rows store.old) past call.now buffer.old buffer.new result }
-    ensures leads { S.Store.sound store.old → (past : List Call) → Stands past (S.Store.pairs store.old) → Stands (told S.Store.limit (S.Store.rows store.old) past call.now) (S.Store.pairs store.new) }
-    ensures stays { S.Store.sound store.old → S.Store.sound store.new }
+    ensures answers { (past : List Call) → Stands past (S.Store.pairs store.old) → Answers S.Store.limit (S.Store.rows store.old) past call.now buffer.old buffer.new result }
+    ensures leads { (past : List Call) → Stands past (S.Store.pairs store.old) → Stands (told S.Store.limit (S.Store.rows store.old) past call.now) (S.Store.pairs store.new) }
     ensures rows { S.Store.rows store.new ≡ S.Store.rows store.old }
 {
     match call {
@@ -35,8 +34,7 @@ pub fn act<S: Store>(store: &mut S, call: &Call, buffer: &mut [u8]) -> Answer
 
 // Makes the calls in order, with one buffer for what they get.
 pub fn run<S: Store>(store: &mut S, calls: &[Call], buffer: &mut [u8])
-    ensures leads { S.Store.sound store.old → (past : List Call) → Stands past (S.Store.pairs store.old) → Stands (told_all S.Store.limit (S.Store.rows store.old) past calls.now) (S.Store.pairs store.new) }
-    ensures stays { S.Store.sound store.old → S.Store.sound store.new }
+    ensures leads { (past : List Call) → Stands past (S.Store.pairs store.old) → Stands (told_all S.Store.limit (S.Store.rows store.old) past calls.now) (S.Store.pairs store.new) }
     ensures rows { S.Store.rows store.new ≡ S.Store.rows store.old }
 {
     for call in calls {
@@ -53,7 +51,7 @@ pub fn ask<S: Store>(
     last: &Call,
     buffer: &mut [u8],
 ) -> Answer
-    ensures { S.Store.sound store.old → S.Store.pairs store.old ≡ [] → Answers S.Store.limit (S.Store.rows store.old) (told_all S.Store.limit (S.Store.rows store.old) [] calls.now) last.now buffer.old buffer.new result }
+    ensures { S.Store.pairs store.old ≡ [] → Answers S.Store.limit (S.Store.rows store.old) (told_all S.Store.limit (S.Store.rows store.old) [] calls.now) last.now buffer.old buffer.new result }
 {
     run(store, calls, scratch);
     act(store, last, buffer)

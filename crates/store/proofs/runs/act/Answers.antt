@@ -15,18 +15,17 @@ returns-in-Ok g c =
     let after = g.S.Store.pairs c.put.new.self in
     let key = c.in-Put.name.bytes in
     let bs = vec_items c.in-Put.bytes in
-    let said : g.S.Store.sound c.args.store.now → PutSays limit rows before after key bs 0 = λ s. subst (λ (x : List ℕ). PutSays limit rows before after key x 0) c.as_slice.ensures.value (c.in-Ok.ensures.says s) in
+    let said : PutSays limit rows before after key bs 0 = subst (λ (x : List ℕ). PutSays limit rows before after key x 0) c.as_slice.ensures.value c.in-Ok.ensures.says in
     record {
       answers =
-          λ s past st.
+          λ past st.
           let call : Call = Put c.in-Put.name c.in-Put.bytes in
-          let e : Done ≡ due limit rows past c.args.call.now (length c.args.buffer.now) = subst (λ (x : Call). Done ≡ due limit rows past x (length c.args.buffer.now)) (sym c.in-Put.is) (ap done (put_is_due past past key bs before after st limit rows 0 (said s))) in
+          let e : Done ≡ due limit rows past c.args.call.now (length c.args.buffer.now) = subst (λ (x : Call). Done ≡ due limit rows past x (length c.args.buffer.now)) (sym c.in-Put.is) (ap done (put_is_due past past key bs before after st limit rows 0 said)) in
           record { answer = e; filled = search rules };
       leads =
-          λ s past st.
+          λ past st.
           let call : Call = Put c.in-Put.name c.in-Put.bytes in
-          subst (λ (x : Call). Stands (told limit rows past x) after) (sym c.in-Put.is) (put_leads past (call ∷ past) key bs before after st limit rows 0 (said s) (λ k. refl) refl);
-      stays = c.put.ensures.stays;
+          subst (λ (x : Call). Stands (told limit rows past x) after) (sym c.in-Put.is) (put_leads past (call ∷ past) key bs before after st limit rows 0 said (λ k. refl) refl);
       rows = c.put.ensures.rows;
     }
 
@@ -39,15 +38,14 @@ returns-then-drop g c =
     let key = c.in-Drop.name.bytes in
     record {
       answers =
-          λ s past st.
-          let held : true ≡ is_some (standing past key) = sym c.if-drop.true ∙ (c.drop.ensures.says s).found ∙ ap is_some (st.records key) in
+          λ past st.
+          let held : true ≡ is_some (standing past key) = sym c.if-drop.true ∙ c.drop.ensures.says.found ∙ ap is_some (st.records key) in
           let e : Done ≡ due limit rows past c.args.call.now (length c.args.buffer.now) = subst (λ (x : Call). Done ≡ due limit rows past x (length c.args.buffer.now)) (sym c.in-Drop.is) (ap (λ (b : Bool). cond b Done Nothing) held) in
           record { answer = e; filled = search rules };
       leads =
-          λ s past st.
+          λ past st.
           let call : Call = Drop c.in-Drop.name in
-          subst (λ (x : Call). Stands (told limit rows past x) after) (sym c.in-Drop.is) (drop_leads past (call ∷ past) key key before after st c.drop.result (c.drop.ensures.says s) (g.met.S.Store.apart c.args.store.now s) (λ k. refl) refl);
-      stays = c.drop.ensures.stays;
+          subst (λ (x : Call). Stands (told limit rows past x) after) (sym c.in-Drop.is) (drop_leads past (call ∷ past) key key before after st c.drop.result c.drop.ensures.says (g.met.S.Store.apart c.args.store.now) (λ k. refl) refl);
       rows = c.drop.ensures.rows;
     }
 
@@ -60,14 +58,13 @@ returns-else-drop g c =
     let key = c.in-Drop.name.bytes in
     record {
       answers =
-          λ s past st.
-          let held : false ≡ is_some (standing past key) = sym c.if-drop.false ∙ (c.drop.ensures.says s).found ∙ ap is_some (st.records key) in
+          λ past st.
+          let held : false ≡ is_some (standing past key) = sym c.if-drop.false ∙ c.drop.ensures.says.found ∙ ap is_some (st.records key) in
           let e : Nothing ≡ due limit rows past c.args.call.now (length c.args.buffer.now) = subst (λ (x : Call). Nothing ≡ due limit rows past x (length c.args.buffer.now)) (sym c.in-Drop.is) (ap (λ (b : Bool). cond b Done Nothing) held) in
           record { answer = e; filled = search rules };
       leads =
-          λ s past st.
+          λ past st.
           let call : Call = Drop c.in-Drop.name in
-          subst (λ (x : Call). Stands (told limit rows past x) after) (sym c.in-Drop.is) (drop_leads past (call ∷ past) key key before after st c.drop.result (c.drop.ensures.says s) (g.met.S.Store.apart c.args.store.now s) (λ k. refl) refl);
-      stays = c.drop.ensures.stays;
+          subst (λ (x : Call). Stands (told limit rows past x) after) (sym c.in-Drop.is) (drop_leads past (call ∷ past) key key before after st c.drop.result c.drop.ensures.says (g.met.S.Store.apart c.args.store.now) (λ k. refl) refl);
       rows = c.drop.ensures.rows;
     }

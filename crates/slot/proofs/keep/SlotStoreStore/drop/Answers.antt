@@ -25,12 +25,10 @@ returns-in-Some c =
     let gone = dropped n (vec_items c.args.self.now.area) c.args.name.bytes c.in-Some.i s c.args.self.now.apart in
     record {
       says =
-          λ _.
           record {
             found = ap is_some (sym (found n (vec_items c.args.self.now.area) c.args.name.bytes c.in-Some.i s));
             pairs = same_pairs_is _ _ (ap (slot_pairs n) c.bury.ensures.after ∙ gone.0);
           };
-      stays = λ _. tt;
       rows = refl;
     }
 
@@ -38,4 +36,4 @@ pub returns-in-None : goal.returns-in-None
 returns-in-None c =
     let n = c.args.self.now.rows in
     let none : has (slot_pairs n (vec_items c.args.self.now.area)) c.args.name.bytes ≡ false = subst (λ (x : List ℕ). has (slot_pairs n x) c.args.name.bytes ≡ false) c.as_slice.ensures.value c.in-None.ensures.slot in
-    record { says = λ _. record { found = sym none; pairs = same_pairs_is _ _ (sym (without_none c.args.name.bytes (slot_pairs n (vec_items c.args.self.now.area)) none)) }; stays = λ _. tt; rows = refl }
+    record { says = record { found = sym none; pairs = same_pairs_is _ _ (sym (without_none c.args.name.bytes (slot_pairs n (vec_items c.args.self.now.area)) none)) }; rows = refl }

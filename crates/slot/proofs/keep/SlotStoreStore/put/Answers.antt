@@ -23,4 +23,4 @@ returns c =
     let bs = c.args.content.now in
     let s = subst (λ (x : List ℕ). SlotFor n x q c.in-Some.i) c.as_slice.ensures.value c.in-Some.ensures in
     let done = put-done n (vec_len v) (vec_items v) (vec_items c.write.new.area) q bs c.in-Some.i c.write.result (name-length q c.args.name.valid) c.if-content-gt-LONGEST.false c.args.self.now.counted (sym c.as_slice.ensures.len ∙ ap length c.as_slice.ensures.value) c.write.ensures.fits c.write.ensures.after s c.args.self.now.apart in
-    record { says = λ _. record { outcome = done.1; pairs = done.0.0 }; stays = λ _. tt; rows = refl }
+    record { says = record { outcome = done.1; pairs = done.0.0 }; rows = refl }
