@@ -13,7 +13,7 @@ use store::Store;
 impl<S: Store> Store for Cache<S> {
     const LIMIT: usize = S::LIMIT;
 
-    ghost limit = { S.Store.limit };
+    ghost LIMIT = { S.Store.LIMIT };
 
     ghost rows = { λ c. S.Store.rows c.below };
 
@@ -21,16 +21,12 @@ impl<S: Store> Store for Cache<S> {
 
     ghost apart = { λ c. S.Store.apart c.below };
 
-    fn most() -> usize {
-        S::most()
-    }
-
     fn capacity(&self) -> usize {
         self.below.capacity()
     }
 
     fn put(&mut self, name: Name, content: &[u8]) -> Result<(), Refusal>
-        ensures says { PutSays S.Store.limit (S.Store.rows self.old.below) (S.Store.pairs self.old.below) (S.Store.pairs self.new.below) name.bytes content.now (answer result) }
+        ensures says { PutSays S.Store.LIMIT (S.Store.rows self.old.below) (S.Store.pairs self.old.below) (S.Store.pairs self.new.below) name.bytes content.now (answer result) }
         ensures rows { S.Store.rows self.new.below ≡ S.Store.rows self.old.below }
         ensures held { kept self.new.copies ≡ after_put (answer result) name.bytes content.now (kept self.old.copies) }
     {

@@ -13,17 +13,13 @@ use store::Store;
 impl Store for SlotStore {
     const LIMIT: usize = LONGEST;
 
-    ghost limit = { longest };
+    ghost LIMIT = { longest };
 
     ghost rows = { λ s. s.rows };
 
     ghost pairs = { λ s. slot_pairs s.rows s.area.items };
 
     ghost apart = { λ s. s.apart };
-
-    fn most() -> usize {
-        LONGEST
-    }
 
     fn capacity(&self) -> usize {
         self.rows

@@ -10,8 +10,7 @@ pub trait Store {
     // The longest record that a store of this kind takes.
     const LIMIT: usize;
 
-    // the record limit, for clauses
-    ghost limit: { ℕ };
+    ghost LIMIT: { ℕ };
 
     // how many pairs the store takes, fixed when it is opened
     ghost rows: { Self → ℕ };
@@ -19,17 +18,13 @@ pub trait Store {
     // the pairs that it holds
     ghost pairs: { Self → List Pair };
 
-    // The record limit.
-    fn most() -> usize
-        ensures { result ≡ limit };
-
     // The number of rows.
     fn capacity(&self) -> usize
         ensures { result ≡ rows self.now };
 
     // The name has this record from now on, unless the record is too long (42) or there is no row for a new name (41).
     fn put(&mut self, name: Name, content: &[u8]) -> Result<(), Refusal>
-        ensures says { PutSays limit (rows self.old) (pairs self.old) (pairs self.new) name.bytes content.now (answer result) }
+        ensures says { PutSays LIMIT (rows self.old) (pairs self.old) (pairs self.new) name.bytes content.now (answer result) }
         ensures rows { rows self.new ≡ rows self.old };
 
     // The record of the name at the buffer's start, and its length; none if there is none; refused (43) if the buffer is shorter.

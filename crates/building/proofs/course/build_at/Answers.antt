@@ -18,7 +18,7 @@ returns-in-Ok g c =
     let one = marked_more was marks k c.push.result c.push.ensures.fits c.requires c.push.ensures.after in
     record {
       goes = λ few more.
-          goes_on (meaning g.T.Translator.means g.T.Translator.same) (stored g.S.Store.limit (g.S.Store.rows c.args.store.now)) (members c.args.project.now) c.args.place more (member c.in-Some.unit.now) (done_list c.args.done.now) (done_list c.build_unit.new.done)
+          goes_on (meaning g.T.Translator.means g.T.Translator.same) (stored g.S.Store.LIMIT (g.S.Store.rows c.args.store.now)) (members c.args.project.now) c.args.place more (member c.in-Some.unit.now) (done_list c.args.done.now) (done_list c.build_unit.new.done)
           (view (g.S.Store.pairs c.args.store.now)) (view (g.S.Store.pairs c.build_unit.new.store)) was marks c.in-Some.ensures k (told.built few) one;
       grows = told.grows;
       marks = few_marks was marks k c.push.result c.push.ensures.after;
@@ -34,7 +34,7 @@ returns-in-Err g c =
     let one = marked_more was marks Failed c.push-in-Err.result c.push-in-Err.ensures.fits c.requires c.push-in-Err.ensures.after in
     record {
       goes = λ few more.
-          goes_off (meaning g.T.Translator.means g.T.Translator.same) (stored g.S.Store.limit (g.S.Store.rows c.args.store.now)) (members c.args.project.now) c.args.place more (member c.in-Some.unit.now) (done_list c.args.done.now) (done_list c.build_unit.new.done)
+          goes_off (meaning g.T.Translator.means g.T.Translator.same) (stored g.S.Store.LIMIT (g.S.Store.rows c.args.store.now)) (members c.args.project.now) c.args.place more (member c.in-Some.unit.now) (done_list c.args.done.now) (done_list c.build_unit.new.done)
           (view (g.S.Store.pairs c.args.store.now)) (view (g.S.Store.pairs c.build_unit.new.store)) was marks c.in-Some.ensures c.in-Err.stop _ c.name.ensures refl (told.built few) one;
       grows = told.grows;
       marks = few_marks was marks Failed c.push-in-Err.result c.push-in-Err.ensures.after;

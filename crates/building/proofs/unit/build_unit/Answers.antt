@@ -21,7 +21,7 @@ returns-in_default g c =
     let qs = g.S.Store.pairs c.get.new.store in
     record {
       built = λ few.
-          from_here m g.S.Store.limit (g.S.Store.rows c.args.store.now) (g.S.Store.rows c.get.new.store) u ds (done_list c.make_unit.new.done) ps qs (view (g.S.Store.pairs c.make_unit.new.store)) c.make_unit.result got.rows got.pairs
+          from_here m g.S.Store.LIMIT (g.S.Store.rows c.args.store.now) (g.S.Store.rows c.get.new.store) u ds (done_list c.make_unit.new.done) ps qs (view (g.S.Store.pairs c.make_unit.new.store)) c.make_unit.result got.rows got.pairs
           (made.built few u (sym c.name-name.ensures) c.prepare.ensures
           (ap (λ xs. current m u (interfaces ds u) (artifact_in (lookup xs u.name.bytes))) got.pairs ∙ ap (current m u (interfaces ds u)) (ap (λ n. artifact_in (lookup ps n.bytes)) (sym c.name-name.ensures) ∙ sym got.holds)));
       grows = made.grows;
@@ -40,7 +40,7 @@ returns-in_default-current g c =
     let qs = g.S.Store.pairs c.get.new.store in
     record {
       built = λ few.
-          from_here m g.S.Store.limit (g.S.Store.rows c.args.store.now) (g.S.Store.rows c.get.new.store) u ds (done_list c.make_unit-in_default-current.new.done) ps qs (view (g.S.Store.pairs c.make_unit-in_default-current.new.store)) c.make_unit-in_default-current.result got.rows got.pairs
+          from_here m g.S.Store.LIMIT (g.S.Store.rows c.args.store.now) (g.S.Store.rows c.get.new.store) u ds (done_list c.make_unit-in_default-current.new.done) ps qs (view (g.S.Store.pairs c.make_unit-in_default-current.new.store)) c.make_unit-in_default-current.result got.rows got.pairs
           (made.built few u (sym c.name-name.ensures) c.prepare.ensures
           (ap (λ xs. current m u (interfaces ds u) (artifact_in (lookup xs u.name.bytes))) got.pairs
           ∙ ap (current m u (interfaces ds u)) (ap (λ n. artifact_in (lookup ps n.bytes)) (sym c.name-name.ensures) ∙ sym got.holds)
@@ -62,11 +62,11 @@ returns g c =
     let kept = art c.current.new.kept in
     record {
       built = λ few.
-          unit_kept m g.S.Store.limit (g.S.Store.rows c.args.store.now) u ds (done_list c.push.new.self) (view ps) (view qs) kept
+          unit_kept m g.S.Store.LIMIT (g.S.Store.rows c.args.store.now) u ds (done_list c.push.new.self) (view ps) (view qs) kept
           (ap (current m u (interfaces ds u)) (ap (λ n. artifact_in (lookup ps n.bytes)) (sym c.name-name.ensures) ∙ sym got.holds)
           ∙ current_is m u (interfaces ds u) (art c.prepare.new.fresh) (in_buffer (Some c.in-Some.length) c.get.new.buffer) c.prepare.ensures
           ∙ sym c.in-Some-current.ensures)
-          (taken m g.S.Store.limit (g.S.Store.rows c.args.store.now) u ds (done_list c.push.new.self) (view ps) (view qs) c.name-name.result kept.product c.push.result (sym c.name-name.ensures) c.push.ensures.fits few c.push.ensures.after)
+          (taken m g.S.Store.LIMIT (g.S.Store.rows c.args.store.now) u ds (done_list c.push.new.self) (view ps) (view qs) c.name-name.result kept.product c.push.result (sym c.name-name.ensures) c.push.ensures.fits few c.push.ensures.after)
           (ap view got.pairs);
       grows = few_more ds (done_list c.push.new.self) _ c.push.result c.push.ensures.after;
       rows = got.rows;

@@ -10,4 +10,4 @@ invariant_of-self-2 g c =
     let s = c.args.self.now in
     let ps = g.S.Store.pairs s.below in
     let ps' = g.S.Store.pairs c.put.new.self in
-    record { true_copies = subst (λ (x : List Pair). TrueCopies x ps') (sym c.admit.ensures) (put_true g.S.Store.limit (g.S.Store.rows s.below) 0 c.args.name.bytes c.args.content.now (kept s.copies) ps ps' s.true_copies c.in_ok-put.ensures.says) }
+    record { true_copies = subst (λ (x : List Pair). TrueCopies x ps') (sym c.admit.ensures) (put_true g.S.Store.LIMIT (g.S.Store.rows s.below) 0 c.args.name.bytes c.args.content.now (kept s.copies) ps ps' s.true_copies c.in_ok-put.ensures.says) }
