@@ -11,7 +11,7 @@ use names::Name;
 pub fn put_byte(b: u8, out: &mut Bounded<u8, 1896>)
     ensures { Adds (held out.old) (byte.put b) (held out.new) }
 {
-    out.push(b);
+    let _ = out.push(b);
 }
 
 // Two bytes, the higher first.
@@ -19,7 +19,7 @@ pub(crate) fn put_pair(n: u16, out: &mut Bounded<u8, 1896>)
     ensures { Adds (held out.old) (pair.put n) (held out.new) }
 {
     let bytes = [(n / 256) as u8, (n % 256) as u8];
-    out.extend(&bytes);
+    let _ = out.extend(&bytes);
 }
 
 // A number with a sign in four bytes, the highest first.
@@ -36,5 +36,5 @@ pub(crate) fn put_name(n: Name, out: &mut Bounded<u8, 1896>)
     ensures { Adds (held out.old) (name.put n) (held out.new) }
 {
     let bytes = n.bytes();
-    out.extend(&bytes);
+    let _ = out.extend(&bytes);
 }

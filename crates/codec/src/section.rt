@@ -23,9 +23,7 @@ pub(crate) fn read_list<T: Field + Drop, const N: usize>(
     }
     for _ in 0..count {
         let x = T::read(input)?;
-        if !into.push(x) {
-            return None;
-        }
+        into.push(x).ok()?;
     }
     Some(())
 }

@@ -22,27 +22,17 @@ fn may_follow(b: u8) -> bool
 fn is_tail(bytes: &[u8]) -> bool
     ensures { result ≡ tail bytes.now }
 {
-    let mut ended = false;
-    for b in bytes {
-        if *b == 0 {
-            ended = true;
-        } else if ended || !may_follow(*b) {
-            return false;
-        }
-    }
-    true
+    bytes
+        .iter()
+        .skip_while(|b| may_follow(**b))
+        .all(|b| *b == 0)
 }
 
 // Letters or digits only.
 fn is_plain(bytes: &[u8]) -> bool
     ensures { result ≡ plain bytes.now }
 {
-    for b in bytes {
-        if !may_follow(*b) {
-            return false;
-        }
-    }
-    true
+    bytes.iter().all(|b| may_follow(*b))
 }
 
 fn is_padded(bytes: &[u8]) -> bool

@@ -1,5 +1,4 @@
-use Rattle.std.proofs.Common.{◌≡◌, ℕ, ◌+◌, ◌-◌, ◌≤◌, List, [], ◌∷◌, ◌++◌, length, sym, ap, ◌∙◌, arith, length-append}
-use Rattle.std.proofs.lemmas.Bool.{ltb-false}
+use Rattle.std.proofs.Common.{◌≡◌, cond, is_some, ℕ, ◌+◌, ◌-◌, List, [], ◌∷◌, ◌++◌, length, sym, ap, ◌∙◌, length-append}
 use Rattle.bounded.specs.Held.{held}
 use Rattle.codec.specs.Format.{left, filled, many}
 use Rattle.codec.proofs.Many.{onto, many_starts, many_goes, many_stops, many-ends}
@@ -17,14 +16,10 @@ returns-in_err-x g c =
     ap (λ o. filled o (held c.loop.into) (left c.read.new.input)) c.from_residual.ensures
     ∙ many_stops c.args.count c.loop.counter g.T.Field.format.get (left c.loop.input) (held c.loop.into) _ c.loop-test.true c.loop.invariant.1 c.in_err-x.ensures
 
-pub returns-then-not-push : goal.returns-then-not-push
-returns-then-not-push g c =
-    let full : g.row.N ≤ length (held c.loop.into) = ltb-false (length (held c.loop.into)) g.row.N (sym c.push.ensures.fits ∙ c.if-not-push.true) in
-    absurd (omega (arith, c.loop.invariant.0))
-
 pub loop-preserved : goal.loop-preserved
 loop-preserved g c =
-    let e : held c.push.new.self ≡ held c.loop.into ++ c.in_ok-x.x ∷ [] = c.if-not-push.ensures.after in
+    let e : held c.push.new.self ≡ held c.loop.into ++ c.in_ok-x.x ∷ [] =
+    c.push.ensures.after ∙ ap (λ b. cond b (held c.loop.into ++ c.in_ok-x.x ∷ []) (held c.loop.into)) (sym c.ok.ensures.variant ∙ ap is_some c.in_ok-ok.was) in
     (one_more (held c.loop.into) (held c.push.new.self) c.in_ok-x.x c.loop.counter e c.loop.invariant.0, ap (λ xs. onto xs (many (c.args.count - (c.loop.counter + 1)) g.T.Field.format.get (left c.read.new.input))) e ∙ many_goes c.args.count c.loop.counter g.T.Field.format.get (left c.loop.input) (held c.loop.into) _ c.loop-test.true c.loop.invariant.1 c.in_ok-x.x (left c.read.new.input) c.in_ok-x.ensures)
 
 pub returns : goal.returns

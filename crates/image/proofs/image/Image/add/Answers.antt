@@ -1,4 +1,4 @@
-use Rattle.std.proofs.Common.{◌≡◌, ℕ, ◌+◌, ◌<◌, ◌≤◌, Bool, true, cond, ◌&&◌, ltb, leb, List, [], ◌∷◌, ◌++◌, length, sym, ap, ◌∙◌, arith}
+use Rattle.std.proofs.Common.{◌≡◌, is_ok, ℕ, ◌+◌, ◌<◌, ◌≤◌, Bool, true, cond, ◌&&◌, ltb, leb, List, [], ◌∷◌, ◌++◌, length, sym, ap, ◌∙◌, arith}
 use Rattle.std.proofs.lemmas.List.{length_push}
 use Rattle.std.proofs.lemmas.Bool.{lt-ltb, le-leb}
 use Rattle.bounded.specs.Held.{held}
@@ -36,7 +36,8 @@ returns c =
     let i = c.args.self.now in
     let n = length (held i.names) in
     let small : n < 24 = omega (arith, c.if-at-ge24.false, c.len-at.ensures) in
+    let done = c.push.ensures.fits ∙ lt-ltb n 24 small in
     record {
-      fits = all_fit c.push.result n (length c.args.code.now) (length c.args.entries.now) (length c.args.references.now) c.push.ensures.fits small c.if-code-gt384.false c.if-entries-gt12.false c.if-references-gt32.false;
-      after = added i c.len-at.result c.push.result (held c.push.new.self) c.replace.new.self c.replace-2.new.self c.replace-3.new.self c.args.name c.args.code.now c.args.entries.now c.args.references.now c.len-at.ensures c.push.ensures.after (c.push.ensures.fits ∙ lt-ltb n 24 small) c.replace.ensures c.replace-2.ensures c.replace-3.ensures;
+      fits = c.is_ok.ensures.value ∙ all_fit (is_ok c.push.result) n (length c.args.code.now) (length c.args.entries.now) (length c.args.references.now) c.push.ensures.fits small c.if-code-gt384.false c.if-entries-gt12.false c.if-references-gt32.false;
+      after = added i c.len-at.result c.is_ok.result (held c.push.new.self) c.replace.new.self c.replace-2.new.self c.replace-3.new.self c.args.name c.args.code.now c.args.entries.now c.args.references.now c.len-at.ensures (c.push.ensures.after ∙ ap (λ b. cond b (held i.names ++ c.args.name ∷ []) (held i.names)) (sym c.is_ok.ensures.value)) (c.is_ok.ensures.value ∙ done) c.replace.ensures c.replace-2.ensures c.replace-3.ensures;
     }
