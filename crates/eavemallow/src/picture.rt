@@ -1,51 +1,30 @@
 // Pictures of an area: a line for every record, with its offset, its mark, its name and its length.
-use area::layout::{HEADER, LENGTH_AT, NAME_AT, SLOT};
-use area::record_at::{is_live, length_of};
+use area::layout::SLOT;
+use area::record_at::{is_live, length_of, name_of};
 use log_store::LogStore;
-use names::Name;
 use slot::SlotStore;
 use store::Store;
 
 // The records of a slot store, slot by slot.
 pub fn slots(rt: &HostRuntime, slots: &SlotStore) -> anyhow::Result<()> {
-    let rows = slots.capacity();
-    for (i, piece) in slots.area().chunks(SLOT).enumerate() {
-        if i < rows {
-            record(rt, i.saturating_mul(SLOT), piece)?;
-        }
+    let pieces = slots.area().chunks_exact(SLOT).take(slots.capacity());
+    for (i, piece) in pieces.enumerate() {
+        record(rt, i.saturating_mul(SLOT), piece)?;
     }
     Ok(())
 }
 
 // The records of a log, one behind the other.
 pub fn log(rt: &HostRuntime, log: &LogStore) -> anyhow::Result<()> {
-    let area = log.area();
-    let end = log.end();
-    if end > area.len() {
-        return Ok(());
-    }
-    let mut rest = &area[0..end];
-    let mut at = 0usize;
-    for _ in 0..end {
-        if rest.len() < HEADER {
-            break;
-        }
-        record(rt, at, rest)?;
-        let size = HEADER.saturating_add(length_of(rest)).min(rest.len());
-        at = at.saturating_add(size);
-        rest = &rest[size..];
+    for (at, piece) in log.records() {
+        record(rt, at, piece)?;
     }
     Ok(())
 }
 
 // The record at the start of a piece; bytes that were never a record have no name.
 fn record(rt: &HostRuntime, at: usize, piece: &[u8]) -> anyhow::Result<()> {
-    if piece.len() < HEADER {
-        return Ok(());
-    }
-    let mut bytes = [0u8; 8];
-    bytes.copy_from_slice(&piece[NAME_AT..LENGTH_AT]);
-    let Ok(name) = Name::from_padded(bytes) else {
+    let Some(name) = name_of(piece) else {
         return Ok(());
     };
     let mark = if is_live(piece) { "live" } else { "dead" };

@@ -66,12 +66,15 @@ fn answer<S: Store>(
     };
     let mut buffer = vec![in rt.alloc(); 0u8; room]?;
     match store::act(store, call, buffer.as_mut_slice()) {
-        Answer::Done => println!(rt; "done")?,
-        Answer::Nothing => println!(rt; "none")?,
-        Answer::Refused(n) => println!(rt; "refused {n}")?,
-        Answer::Found(n) => {
+        Ok(Answer::Done) => println!(rt; "done")?,
+        Ok(Answer::Nothing) => println!(rt; "none")?,
+        Ok(Answer::Found(n)) => {
             print!(rt; "done length {n} ")?;
             hex(rt, buffer.as_slice(), n)?;
+        }
+        Err(refusal) => {
+            let n = refusal.number();
+            println!(rt; "refused {n}")?;
         }
     }
     Ok(())
