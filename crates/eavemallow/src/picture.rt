@@ -1,14 +1,14 @@
 // Pictures of an area: a line for every record, with its offset, its mark, its name and its length.
-use area::layout::SLOT;
-use area::record_at::{is_live, length_of, name_of};
+use area::layout::{HEADER, LENGTH_AT, NAME_AT, SLOT};
+use area::record_at::{is_live, length_of};
 use log_store::LogStore;
+use names::Name;
 use slot::SlotStore;
 use store::Store;
 
 // The records of a slot store, slot by slot.
 pub fn slots(rt: &HostRuntime, slots: &SlotStore) -> anyhow::Result<()> {
-    let pieces = slots.area().chunks_exact(SLOT).take(slots.capacity());
-    for (i, piece) in pieces.enumerate() {
+    for (i, piece) in slots.area().chunks(SLOT).take(slots.capacity()).enumerate() {
         record(rt, i.saturating_mul(SLOT), piece)?;
     }
     Ok(())
@@ -24,11 +24,15 @@ pub fn log(rt: &HostRuntime, log: &LogStore) -> anyhow::Result<()> {
 
 // The record at the start of a piece; bytes that were never a record have no name.
 fn record(rt: &HostRuntime, at: usize, piece: &[u8]) -> anyhow::Result<()> {
-    let Some(name) = name_of(piece) else {
+    if piece.len() < HEADER {
+        return Ok(());
+    }
+    let mut bytes = [0u8; 8];
+    bytes.copy_from_slice(&piece[NAME_AT..LENGTH_AT]);
+    let Ok(name) = Name::from_padded(bytes) else {
         return Ok(());
     };
     let mark = if is_live(piece) { "live" } else { "dead" };
-    let length = length_of(piece);
-    println!(rt; "{at} {mark} {name} {length}")?;
+    println!(rt; "{at} {mark} {name} {}", length_of(piece))?;
     Ok(())
 }
