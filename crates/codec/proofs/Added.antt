@@ -1,21 +1,7 @@
--- Records that are added to, piece by piece.
-use Rattle.std.proofs.Common.{◌≡◌, ℕ, ◌+◌, ◌<◌, List, [], ◌∷◌, ◌++◌, map, length, get_or, take, sym, refl, ap, ◌∙◌, append_assoc, append-nil, arith, length-append}
+-- The bytes of elements, one behind the other.
+use Rattle.std.proofs.Common.{◌≡◌, ℕ, ◌+◌, ◌<◌, List, [], ◌∷◌, ◌++◌, map, length, get_or, take, sym, refl, ap, ◌∙◌, append_assoc, append-nil}
 use Rattle.std.proofs.lemmas.List.{take_more}
-use Rattle.codec.specs.Adding.{Adds}
 use Rattle.codec.specs.Format.{each}
-
-pub adds_both : (u a v b w : List ℕ) → Adds u a v → Adds v b w → Adds u (a ++ b) w
-adds_both u a v b w f g h =
-    let n : length (a ++ b) ≡ length a + length b = length-append a b in
-    let e : v ≡ u ++ a = f (omega arith) in
-    let m : length v ≡ length u + length a = ap length e ∙ length-append u a in
-    g (omega arith) ∙ ap (λ xs. xs ++ b) e ∙ append_assoc u a b
-
-pub adds_none : (u : List ℕ) → Adds u [] u
-adds_none u h = sym (append-nil u)
-
-pub adds_as : (u a b w : List ℕ) → a ≡ b → Adds u a w → Adds u b w
-adds_as u a b w e f h = let n : length a ≡ length b = ap length e in f (omega arith) ∙ ap (λ xs. u ++ xs) e
 
 each_push : {X : Type 0} (put : X → List ℕ) (xs : List X) (x : X) → each put (xs ++ x ∷ []) ≡ each put xs ++ put x
 each_push put [] x = append-nil (put x)

@@ -1,7 +1,7 @@
 -- A loop that reads so many elements, one a turn: what it has, put before what the rest gives, is what all give.
-use Rattle.std.proofs.Common.{◌≡◌, ℕ, suc, ◌+◌, ◌-◌, ◌<◌, ◌≤◌, Bool, true, false, cond, List, [], ◌∷◌, ◌++◌, Some, None, Option, sym, refl, ap, ◌∙◌, append_assoc, append-nil, arith}
+use Rattle.std.proofs.Common.{◌≡◌, ℕ, suc, ◌+◌, ◌-◌, ◌<◌, ◌≤◌, Bool, true, false, cond, List, [], ◌∷◌, ◌++◌, Some, None, Option, Ok, Err, Result, IsErr, sym, refl, ap, ◌∙◌, append_assoc, append-nil, arith}
 use native.Mathlib.Nat.{sub-zero}
-use Rattle.std.proofs.lemmas.Bool.{le-leb, lt-leb}
+use Rattle.std.proofs.lemmas.Bool.{le-leb, lt-leb, true≢false}
 use Rattle.codec.specs.Format.{next, passing, many, many_within, filled}
 
 -- elements before those that were read
@@ -58,6 +58,7 @@ module _ {X : Type 0} (t : X → Bool) (o : Option (X × List ℕ)) (x : X) (bs 
   pub tested_no : false ≡ t x → None ≡ next o (λ y cs. passing (t y) y cs)
   tested_no e = after false e
 
--- a reader that stopped, whatever it holds
-pub refused : {X : Type 0} (r : Option (Unit {0})) (x : X) (bs : List ℕ) (R : Option (X × List ℕ)) → r ≡ None → None ≡ R → filled r x bs ≡ R
-refused r x bs R e f = ap (λ o. filled o x bs) e ∙ f
+-- a reader that refused, whatever it holds
+pub refused : {X Y : Type 0} (r : Result (Unit {0}) Y) (x : X) (bs : List ℕ) (R : Option (X × List ℕ)) → IsErr r → None ≡ R → filled r x bs ≡ R
+refused (Ok u) x bs R h e = absurd (true≢false (sym h))
+refused (Err y) x bs R h e = e
