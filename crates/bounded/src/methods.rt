@@ -1,6 +1,7 @@
-ghost use Rattle.std.specs.Prelude.{◌≡◌, ◌+◌, [], ◌∷◌, ◌++◌, length, take, IfOk, if◌then◌else◌, nat_le, nat_lt};
+ghost use Rattle.std.specs.Prelude.{◌≡◌, ◌+◌, [], ◌∷◌, ◌++◌, length, take, is_ok, IfOk, if◌then◌else◌, nat_le, nat_lt};
 ghost use Rattle.bounded.specs.Held.{held};
 
+use crate::full::Full;
 use crate::list::Bounded;
 use std::alloc::{AllocError, Global};
 
@@ -27,18 +28,18 @@ impl<T, const N: usize> Bounded<T, N> {
         self.items.len()
     }
 
-    // One element more at the end; false, and nothing done, where N stand.
-    pub fn push(&mut self, x: T) -> bool
+    // One element more at the end; refused, and nothing done, where N stand.
+    pub fn push(&mut self, x: T) -> Result<(), Full>
     where
         T: Drop,
-        ensures fits { result ≡ nat_lt (length (held self.old)) N }
-        ensures after { held self.new ≡ (if result then held self.old ++ x ∷ [] else held self.old) }
+        ensures fits { is_ok result ≡ nat_lt (length (held self.old)) N }
+        ensures after { held self.new ≡ (if is_ok result then held self.old ++ x ∷ [] else held self.old) }
     {
         if self.items.len() >= N {
-            return false;
+            return Err(Full);
         }
         self.items.push_reserved(x);
-        true
+        Ok(())
     }
 
     // No elements.
@@ -59,20 +60,17 @@ impl<T, const N: usize> Bounded<T, N> {
         self.items.truncate(n);
     }
 
-    // More elements at the end; false, and nothing done, where they would pass N.
-    pub fn extend(&mut self, more: &[T]) -> bool
+    // More elements at the end; refused, and nothing done, where they would pass N.
+    pub fn extend(&mut self, more: &[T]) -> Result<(), Full>
     where
         T: Copy,
-        ensures fits { result ≡ nat_le (length (held self.old) + length more.now) N }
-        ensures after { held self.new ≡ (if result then held self.old ++ more.now else held self.old) }
+        ensures fits { is_ok result ≡ nat_le (length (held self.old) + length more.now) N }
+        ensures after { held self.new ≡ (if is_ok result then held self.old ++ more.now else held self.old) }
     {
         let room = N - self.items.len();
         if more.len() > room {
-            return false;
+            return Err(Full);
         }
-        match self.items.extend_from_slice(more) {
-            Ok(_) => true,
-            Err(_) => false,
-        }
+        self.items.extend_from_slice(more).map_err(|_| Full)
     }
 }

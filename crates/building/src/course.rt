@@ -50,11 +50,11 @@ fn build_at<T: Translator, S: Store>(
     };
     match unit::build_unit(translator, store, unit, desk, done) {
         Ok(mark) => {
-            marks.push(mark);
+            let _ = marks.push(mark);
             Ok(())
         }
         Err(stop) => {
-            marks.push(Mark::Failed);
+            let _ = marks.push(Mark::Failed);
             Err(Halt {
                 unit: unit.name(),
                 stop,

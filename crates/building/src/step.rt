@@ -24,7 +24,7 @@ pub fn prepare(done: &Done, unit: &Unit, fresh: &mut Artifact)
     ensures { art fresh.new ≡ record { source = (member unit.now).source; imports = interfaces (done_list done.now) (member unit.now); product = no_parts } }
 {
     fresh.clear();
-    fresh.source.extend(unit.source());
+    let _ = fresh.source.extend(unit.source());
     for name in unit.imports() {
         fresh.add_import(done.interface(*name));
     }

@@ -1,10 +1,14 @@
-// The count of a section: a number of one byte or of two.
+// A section: a count, which is a number of one byte or of two, and so many elements.
 ghost use Rattle.std.specs.Prelude.{◌≡◌, ◌<◌, ℕ};
-ghost use Rattle.codec.specs.Format.{Format, left, read_as, byte, pair};
+ghost use Rattle.bounded.specs.Held.{held};
+ghost use Rattle.codec.specs.Format.{Format, left, read_as, filled, listed, byte, pair};
 
 use crate::field::Field;
-use crate::input::{Input, Malformed};
+use crate::input::Input;
+use crate::malformed::Malformed;
+use crate::section::{append_list, read_list};
 use crate::sink::Sink;
+use bounded::Bounded;
 
 pub trait Count {
     // how a count stands in bytes
@@ -19,6 +23,25 @@ pub trait Count {
     // A number as a count, where it is not too high and has room.
     fn append_count<S: Sink>(n: usize, out: &mut S)
         ensures { n < limit → S.Takes out.old (format.put n) out.new };
+
+    // Reads a section into a list, in place of what it holds.
+    final fn read_section<T: Field + Drop, const N: usize>(
+        input: &mut Input<'_>,
+        into: &mut Bounded<T, N>,
+    ) -> Result<(), Malformed>
+        ensures { filled result (held into.new) (left input.new) ≡ (listed format N T.Field.format).get (left input.old) }
+    {
+        let count = Self::read_count(input)?;
+        read_list(input, count, into)
+    }
+
+    // Puts a section, where it has room.
+    final fn append_section<T: Field, S: Sink, const N: usize>(xs: &Bounded<T, N>, out: &mut S)
+        ensures { N < limit → S.Sink.Takes out.old ((listed format N T.Field.format).put (held xs.now)) out.new }
+    {
+        Self::append_count(xs.len(), out);
+        append_list(xs.as_slice(), out);
+    }
 }
 
 impl Count for u8 {

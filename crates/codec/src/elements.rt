@@ -2,7 +2,8 @@
 ghost use Rattle.codec.specs.Format.{byte, pair, value, name, row, reference};
 
 use crate::field::Field;
-use crate::input::{Input, Malformed};
+use crate::input::Input;
+use crate::malformed::Malformed;
 use crate::sink::Sink;
 use names::Name;
 use product::{Reference, Row};

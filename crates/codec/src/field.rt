@@ -2,7 +2,8 @@
 ghost use Rattle.std.specs.Prelude.{◌≡◌};
 ghost use Rattle.codec.specs.Format.{Format, left, read_as};
 
-use crate::input::{Input, Malformed};
+use crate::input::Input;
+use crate::malformed::Malformed;
 use crate::sink::Sink;
 
 pub trait Field: Sized {

@@ -1,18 +1,9 @@
 // What is left to read, and the readers of single elements.
-ghost use Rattle.std.specs.Prelude.{◌≡◌, drop, is_ok, if◌then◌else◌};
+ghost use Rattle.std.specs.Prelude.{◌≡◌, ◌==◌, length, drop, is_ok, if◌then◌else◌};
 ghost use Rattle.codec.specs.Format.{left, read_as, begins, first, byte, pair, value, name};
 
-use names::{Name, Refusal};
-
-// The bytes do not begin with what was to be read.
-#[derive(Clone, Copy, Debug, PartialEq, Eq)]
-pub struct Malformed;
-
-impl From<Refusal> for Malformed {
-    fn from(_refusal: Refusal) -> Malformed {
-        Malformed
-    }
-}
+use crate::malformed::Malformed;
+use names::Name;
 
 #[derive(Drop)]
 pub struct Input<'a> {
@@ -57,6 +48,13 @@ impl Input<'_> {
     {
         let name = Name::from_padded(self.bytes()?)?;
         Ok(name)
+    }
+
+    // Refused where something is left.
+    pub fn end(&self) -> Result<(), Malformed>
+        ensures { is_ok result ≡ (length (left self.now) == 0) }
+    {
+        Malformed::unless(self.rest.is_empty())
     }
 
     // Takes a byte where it stands first in what is left.

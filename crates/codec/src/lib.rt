@@ -9,12 +9,14 @@ pub mod elements;
 pub mod field;
 pub mod input;
 pub mod list;
+pub mod malformed;
 pub mod section;
 pub mod sink;
 
 pub use buffer::Buffer;
 pub use count::Count;
 pub use field::Field;
-pub use input::{Input, Malformed};
-pub use section::{all_below, append_list, append_section, read_section};
+pub use input::Input;
+pub use malformed::Malformed;
+pub use section::{all_below, append_list};
 pub use sink::Sink;

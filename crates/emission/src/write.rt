@@ -9,20 +9,20 @@ use tokens::Operator;
 pub fn add(bytes: &[u8], out: &mut Product) -> bool
     ensures { done result (parts out.new) ≡ adding bytes.now (parts out.old) }
 {
-    out.code.extend(bytes)
+    out.code.extend(bytes).is_ok()
 }
 
 pub fn refer(reference: Reference, out: &mut Product) -> bool
     ensures { done result (parts out.new) ≡ referring reference (parts out.old) }
 {
-    out.references.push(reference)
+    out.references.push(reference).is_ok()
 }
 
 pub fn enter(out: &mut Product) -> bool
     ensures { done result (parts out.new) ≡ entering (parts out.old) }
 {
     let place = out.code.len() as u16;
-    out.entries.push(place)
+    out.entries.push(place).is_ok()
 }
 
 pub fn show(row: Row, out: &mut Product) -> bool

@@ -34,7 +34,7 @@ fn note(
         Verdict::Wrong(code) => Err(Fault { code, line }),
         Verdict::Declares { function, name } => {
             let start = start + 3;
-            out.push(Declaration {
+            let _ = out.push(Declaration {
                 function,
                 name,
                 line,

@@ -23,7 +23,7 @@ fn read_run<T: Field + Drop, const N: usize>(
     let mut others = rows;
     while others > 0 && input.skip(unit) {
         let x = T::read(input)?;
-        if !into.push(x) {
+        if into.push(x).is_err() {
             return None;
         }
         others -= 1;

@@ -17,7 +17,7 @@ fn refill<T: Copy, const N: usize>(list: &mut Bounded<T, N>, with: &[T])
     ensures { held list.new ≡ with.now }
 {
     list.clear();
-    list.extend(with);
+    let _ = list.extend(with);
 }
 
 impl<T: Copy, const N: usize> Column<T, N> {
@@ -66,7 +66,7 @@ impl Image {
         self.codes.replace(at, code);
         self.entries.replace(at, entries);
         self.references.replace(at, references);
-        self.names.push(name)
+        self.names.push(name).is_ok()
     }
 
     // The names, in link order.

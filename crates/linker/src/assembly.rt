@@ -55,7 +55,7 @@ fn list_names(project: &Project, places: &[usize], names: &mut Bounded<Name, 24>
         let Some(name) = project.name(*p) else {
             continue;
         };
-        names.push(name);
+        let _ = names.push(name);
     }
 }
 

@@ -52,7 +52,7 @@ pub(crate) fn resolve(
 {
     targets.clear();
     for r in references {
-        targets.push(Target {
+        let _ = targets.push(Target {
             unit: target(names, i, imports, r.position),
             entry: r.entry,
         });

@@ -1,5 +1,6 @@
 -- What a name is: a letter, then letters or digits, eight bytes in all with zero bytes behind.
 use Rattle.std.specs.Prelude.{ℕ, ◌-◌, Bool, true, false, ◌&&◌, ◌||◌, List, [], ◌∷◌, ◌++◌, length, replicate, ◌==◌, nat_le}
+use Rattle.std.specs.List.{list_all}
 
 -- a letter from a to z
 abbrev pub letter : ℕ → Bool
@@ -30,8 +31,7 @@ padded_name (b ∷ bs) = length bs == 7 && (letter b && tail bs)
 
 -- letters or digits only
 abbrev pub plain : List ℕ → Bool
-plain [] = true
-plain (b ∷ bs) = continues b && plain bs
+plain = list_all continues
 
 -- the written form: one to eight bytes, a letter first
 abbrev pub written_name : List ℕ → Bool

@@ -1,7 +1,6 @@
 // Names of units and declarations, and the refusals that every call of the build manager may give.
 #![tactic(auto)]
 
-pub mod compare;
 pub mod name;
 pub mod refusal;
 pub mod show;

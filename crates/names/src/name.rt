@@ -1,8 +1,8 @@
 ghost use Rattle.std.specs.Prelude.{◌≡◌, true, [], ◌∷◌};
 ghost use Rattle.names.specs.Spelling.{padded_name};
 
-// A name: its eight bytes, with zero bytes behind the letters and digits.
-#[derive(Clone, Copy)]
+// A name: its eight bytes, with zero bytes behind the letters and digits. Names are ordered by these bytes.
+#[derive(Clone, Copy, PartialEq, Eq, PartialOrd, Ord)]
 pub struct Name {
     pub(crate) bytes: [u8; 8],
     ghost valid: { padded_name bytes ≡ true },
@@ -14,7 +14,7 @@ impl Name {
         ensures { result.bytes ≡ 97 ∷ 0 ∷ 0 ∷ 0 ∷ 0 ∷ 0 ∷ 0 ∷ 0 ∷ [] }
     {
         Name {
-            bytes: [b'a', 0, 0, 0, 0, 0, 0, 0],
+            bytes: *b"a\0\0\0\0\0\0\0",
         }
     }
 

@@ -37,12 +37,7 @@ fn is_tail(bytes: &[u8]) -> bool
 fn is_plain(bytes: &[u8]) -> bool
     ensures { result ≡ plain bytes.now }
 {
-    for b in bytes {
-        if !may_follow(*b) {
-            return false;
-        }
-    }
-    true
+    bytes.iter().all(|b| may_follow(*b))
 }
 
 fn is_padded(bytes: &[u8]) -> bool

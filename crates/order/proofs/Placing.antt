@@ -1,10 +1,10 @@
 -- The turns of the loop that places one item after another.
-use Rattle.std.proofs.Common.{◌≡◌, ℕ, suc, ◌+◌, ◌-◌, ◌<◌, ◌≤◌, Bool, true, false, cond, not, ◌&&◌, List, [], ◌∷◌, ◌++◌, length, take, drop, set, Some, None, Option, Ordering, unwrap_or, sym, refl, ap, ◌∙◌, subst, arith}
+use Rattle.std.proofs.Common.{◌≡◌, ℕ, suc, ◌+◌, ◌-◌, ◌<◌, ◌≤◌, Bool, true, false, cond, not, ◌&&◌, List, [], ◌∷◌, ◌++◌, length, take, drop, set, Some, None, Option, Ordering, unwrap_or, sym, refl, ap, ◌∙◌, subst, arith, Ok, Err, Result}
 use Rattle.std.proofs.lemmas.List.{take_more_set, drop-set-lt, take-append-drop, length-take-le, drop-drop}
 use Rattle.std.proofs.lemmas.Bool.{le-ltb}
 use Rattle.order.specs.declared.Need.{Need}
-use Rattle.order.specs.declared.Ordered.{Ordered}
-use Rattle.order.specs.declared.Ordered.TheVariants.{All, Stuck, Short}
+use Rattle.order.specs.declared.Unordered.{Unordered}
+use Rattle.order.specs.declared.Unordered.TheVariants.{Stuck, Short}
 use Rattle.order.specs.Dependency.{Outcome, all, stuck, placed, smallest, next, left, placing, ordered, Tells, Answers}
 
 and_true : (b : Bool) → (b && true) ≡ b
@@ -44,19 +44,19 @@ module _ {K : Type 0} (cmp : K → K → Ordering) (keys : List K) (needs : List
     whole : count ≤ length now → now ≡ take count now ++ drop (length (take count now)) before
     whole h = sym (take-append-drop count now) ∙ ap (λ zs. take count now ++ zs) (rest ∙ ap (λ n. drop n before) (sym (length-take-le count now h)))
 
-    told : (out : Outcome) (r : Ordered) → out ≡ ordered cmp keys needs → length keys ≤ length before → Tells cmp keys needs before now r out → Answers cmp keys needs before now r
-    told out r e l t = subst (λ b. cond b ((r ≡ Short) × (now ≡ before)) (Tells cmp keys needs before now r (ordered cmp keys needs))) (sym (le-ltb (length before) (length keys) l)) (subst (λ u. Tells cmp keys needs before now r u) e t)
+    told : (out : Outcome) (r : Result (Unit {0}) Unordered) → out ≡ ordered cmp keys needs → length keys ≤ length before → Tells cmp keys needs before now r out → Answers cmp keys needs before now r
+    told out r e l t = subst (λ b. cond b ((r ≡ Err Short) × (now ≡ before)) (Tells cmp keys needs before now r (ordered cmp keys needs))) (sym (le-ltb (length before) (length keys) l)) (subst (λ u. Tells cmp keys needs before now r u) e t)
 
     -- no item can be placed any more
-    pub placing_sticks : (r : Ordered) (i : ℕ) → count < length keys → count ≤ length now → length keys ≤ length before → None ≡ next cmp keys needs (take count now) → i ≡ unwrap_or (left cmp keys (take count now)) 0 → r ≡ Stuck i → Answers cmp keys needs before now r
+    pub placing_sticks : (r : Result (Unit {0}) Unordered) (i : ℕ) → count < length keys → count ≤ length now → length keys ≤ length before → None ≡ next cmp keys needs (take count now) → i ≡ unwrap_or (left cmp keys (take count now)) 0 → r ≡ Err (Stuck i) → Answers cmp keys needs before now r
     unfolding by_next
     placing_sticks r i h k l e f s =
         told (stuck (take count now) (unwrap_or (left cmp keys (take count now)) 0)) r
         (sym (placing-one (length keys - (count + 1)) (length keys - count) (take count now) None (omega arith) e) ∙ inv) l
-        (s ∙ ap Stuck f, whole k)
+        (s ∙ ap (λ k. Err (Stuck k)) f, whole k)
 
     -- all items are placed
-    pub placing-ends : (r : Ordered) → length keys ≤ count → count ≤ length now → length keys ≤ length before → r ≡ All → Answers cmp keys needs before now r
+    pub placing-ends : (r : Result (Unit {0}) Unordered) → length keys ≤ count → count ≤ length now → length keys ≤ length before → r ≡ Ok tt → Answers cmp keys needs before now r
     placing-ends r h k l s =
         let none : length keys - count ≡ 0 = omega arith in
         told (all (take count now)) r (ap (λ n. placing cmp keys needs n (take count now)) (sym none) ∙ inv) l (s, whole k)

@@ -1,12 +1,12 @@
 -- The dependency order of items, each with a key and with needs: keys that have to come first.
 -- Items are told apart by their place in the list of keys. An item that is placed stands in the list `done` by that place.
-use Rattle.std.specs.Prelude.{◌≡◌, ℕ, zero, suc, ◌+◌, Bool, true, false, cond, not, ◌&&◌, ◌||◌, List, [], ◌∷◌, ◌++◌, length, drop, Some, None, Option, ◌==◌, nat_lt}
+use Rattle.std.specs.Prelude.{◌≡◌, ℕ, zero, suc, ◌+◌, Bool, true, false, cond, not, ◌&&◌, ◌||◌, List, [], ◌∷◌, ◌++◌, length, drop, Some, None, Option, ◌==◌, nat_lt, Ok, Err, Result}
 use Rattle.std.specs.declared.cmp.Ordering.{Ordering}
 use Rattle.std.specs.Option.{unwrap_or, option_map}
 use Rattle.std.specs.Ordering.{is_eq, is_lt}
 use Rattle.order.specs.declared.Need.{Need}
-use Rattle.order.specs.declared.Ordered.{Ordered}
-use Rattle.order.specs.declared.Ordered.TheVariants.{All, Stuck, Short}
+use Rattle.order.specs.declared.Unordered.{Unordered}
+use Rattle.order.specs.declared.Unordered.TheVariants.{Stuck, Short}
 
 -- the item i is placed
 abbrev pub placed : List ℕ → ℕ → Bool
@@ -71,10 +71,10 @@ module _ {K : Type 0} (cmp : K → K → Ordering) where
     ordered = placing (length keys) []
 
     -- what a call answers and leaves in the places it was lent
-    abbrev pub Tells : List ℕ → List ℕ → Ordered → Outcome → Type 0
-    Tells before after r (all done) = (r ≡ All) × (after ≡ done ++ drop (length done) before)
-    Tells before after r (stuck done i) = (r ≡ Stuck i) × (after ≡ done ++ drop (length done) before)
+    abbrev pub Tells : List ℕ → List ℕ → Result (Unit {0}) Unordered → Outcome → Type 0
+    Tells before after r (all done) = (r ≡ Ok tt) × (after ≡ done ++ drop (length done) before)
+    Tells before after r (stuck done i) = (r ≡ Err (Stuck i)) × (after ≡ done ++ drop (length done) before)
 
     -- fewer places than items: refused, with nothing written
-    abbrev pub Answers : List ℕ → List ℕ → Ordered → Type 0
-    Answers before after r = cond (nat_lt (length before) (length keys)) ((r ≡ Short) × (after ≡ before)) (Tells before after r ordered)
+    abbrev pub Answers : List ℕ → List ℕ → Result (Unit {0}) Unordered → Type 0
+    Answers before after r = cond (nat_lt (length before) (length keys)) ((r ≡ Err Short) × (after ≡ before)) (Tells before after r ordered)

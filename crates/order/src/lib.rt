@@ -16,10 +16,9 @@ pub struct Need<K> {
     pub key: K,
 }
 
-// All items are placed; or none of the others can be, the smallest of which is told; or there are fewer places than items.
-#[derive(Clone, Copy)]
-pub enum Ordered {
-    All,
+// Why items have no order: none of those left can be placed, the smallest of which is told; or there are fewer places than items.
+#[derive(Clone, Copy, Debug, PartialEq, Eq)]
+pub enum Unordered {
     Stuck(usize),
     Short,
 }
@@ -114,19 +113,19 @@ fn left_over<K: Ord>(keys: &[K], done: &[usize]) -> Option<usize>
 }
 
 // Writes the place of each item in the list of keys, in the order in which they come.
-fn fill<K: Ord>(keys: &[K], needs: &[Need<K>], places: &mut [usize]) -> Ordered
+fn fill<K: Ord>(keys: &[K], needs: &[Need<K>], places: &mut [usize]) -> Result<(), Unordered>
     ensures { (o : IsTotalOrder K.Ord.cmp) → Answers K.Ord.cmp keys.now needs.now places.old places.new result }
 {
     if places.len() < keys.len() {
-        return Ordered::Short;
+        return Err(Unordered::Short);
     }
     for count in 0..keys.len() {
         let Some(item) = pick(keys, needs, &places[0..count]) else {
-            return Ordered::Stuck(left_over(keys, &places[0..count]).unwrap_or(0));
+            return Err(Unordered::Stuck(left_over(keys, &places[0..count]).unwrap_or(0)));
         };
         places[count] = item;
     }
-    Ordered::All
+    Ok(())
 }
 
 // The order that the definition gives is the only list that meets the rule.
@@ -142,7 +141,7 @@ pub fn smallest_left<K: Ord>(keys: &[K], done: &[usize]) -> Option<usize>
 }
 
 // Orders the items. Places gets the place of each item in the list of keys, in the order in which they come.
-pub fn order<K: Ord>(keys: &[K], needs: &[Need<K>], places: &mut [usize]) -> Ordered
+pub fn order<K: Ord>(keys: &[K], needs: &[Need<K>], places: &mut [usize]) -> Result<(), Unordered>
     ensures answers { Answers K.Ord.cmp keys.now needs.now places.old places.new result }
     ensures lawful { Lawful K.Ord.cmp keys.now needs.now (ordered K.Ord.cmp keys.now needs.now) }
 {

@@ -1,7 +1,7 @@
 -- Interfaces and products as lists.
-use Rattle.std.specs.Prelude.{ℕ, ◌<◌, ◌≤◌, cond, List, [], ◌∷◌, length, Some, None, Option, FitsSigned}
+use Rattle.std.specs.Prelude.{ℕ, ◌<◌, ◌≤◌, List, [], length, Option, FitsSigned}
 use Rattle.std.specs.Int.{w32}
-use Rattle.std.specs.List.{AllByRecursion}
+use Rattle.std.specs.List.{AllByRecursion, find}
 use Rattle.std.specs.Str.{bytes_eq}
 use Rattle.bounded.specs.Held.{held}
 use Rattle.names.specs.declared.refusal.Fault.{Fault}
@@ -16,8 +16,7 @@ rows i = held i.list
 
 -- the first row of a name, given by its bytes
 abbrev pub first_row : List ℕ → List Row → Option Row
-first_row name [] = None
-first_row name (r ∷ rs) = cond (bytes_eq r.name.bytes name) (Some r) (first_row name rs)
+first_row name = find (λ r. bytes_eq r.name.bytes name)
 
 -- the parts of a product
 pub record Parts : Type 0 where

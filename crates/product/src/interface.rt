@@ -34,11 +34,7 @@ impl Interface {
         ensures answered { answer result ≡ (if nat_lt (length (rows self.old)) 12 then 0 else 16) }
         ensures after { rows self.new ≡ (if nat_lt (length (rows self.old)) 12 then rows self.old ++ row ∷ [] else rows self.old) }
     {
-        if self.list.push(row) {
-            Ok(())
-        } else {
-            Err(Refusal::TooManyRows)
-        }
+        self.list.push(row).map_err(|_| Refusal::TooManyRows)
     }
 
     // No rows.
@@ -53,19 +49,13 @@ impl Interface {
         ensures { rows self.new ≡ rows other.now }
     {
         self.clear();
-        self.list.extend(other.rows());
+        let _ = self.list.extend(other.rows());
     }
 
     // The first row of a name.
     pub fn find(&self, name: Name) -> Option<Row>
         ensures { result ≡ first_row name.bytes (rows self.now) }
     {
-        let rows = self.rows();
-        for (i, row) in rows.iter().enumerate() {
-            if row.name == name {
-                return Some(rows[i]);
-            }
-        }
-        None
+        self.rows().iter().find(|row| row.name == name).copied()
     }
 }

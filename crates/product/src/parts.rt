@@ -48,8 +48,8 @@ impl Product {
     {
         self.clear();
         self.interface.copy_from(&other.interface);
-        self.code.extend(other.code.as_slice());
-        self.entries.extend(other.entries.as_slice());
-        self.references.extend(other.references.as_slice());
+        let _ = self.code.extend(other.code.as_slice());
+        let _ = self.entries.extend(other.entries.as_slice());
+        let _ = self.references.extend(other.references.as_slice());
     }
 }

@@ -6,8 +6,8 @@ use Rattle.names.specs.declared.refusal.Refusal.{Refusal}
 use Rattle.names.specs.declared.refusal.Refusal.TheVariants.{NotAName, SourceTooLong, TooManyImports, TooManyUnits, NoSuchUnit, TooManyRows, ImportMissing, ImportCircle, Faulty, StoreFull, RecordTooLong, BufferTooShort, NotBuilt, ImageTooLong, EntryMissing, NotAnImage, NotAnArtifact}
 use Rattle.names.specs.Ordered.{name_cmp}
 use Rattle.order.specs.declared.Need.{Need}
-use Rattle.order.specs.declared.Ordered.{Ordered}
-use Rattle.order.specs.declared.Ordered.TheVariants.{All, Stuck}
+use Rattle.order.specs.declared.Unordered.{Unordered}
+use Rattle.order.specs.declared.Unordered.TheVariants.{Stuck}
 use Rattle.order.specs.Dependency.{Outcome, all, stuck, first, smallest, ordered}
 use Rattle.project.specs.declared.links.Links.{Links}
 use Rattle.project.specs.Members.{Member, at}
@@ -51,9 +51,9 @@ by_order vs (all places) = linked places
 by_order vs (stuck places i) = circle (slice_get (names vs) i)
 
 -- what ordering the units leaves
-abbrev pub Arranged : List Member → List ℕ → Ordered → Outcome → Type 0
-Arranged vs places r (all done) = (r ≡ All) × (take (length vs) places ≡ done)
-Arranged vs places r (stuck done i) = (r ≡ Stuck i) × (i < length vs)
+abbrev pub Arranged : List Member → List ℕ → Result (Unit {0}) Unordered → Outcome → Type 0
+Arranged vs places r (all done) = (r ≡ Ok tt) × (take (length vs) places ≡ done)
+Arranged vs places r (stuck done i) = (r ≡ Err (Stuck i)) × (i < length vs)
 
 -- the position behind the one counted from 0
 abbrev pub position : Option ℕ → ℕ

@@ -14,7 +14,7 @@ use crate::unit::Unit;
 use crate::whole::Project;
 use bounded::Bounded;
 use names::{Name, Refusal};
-use order::{Need, Ordered};
+use order::{Need, Unordered};
 use std::alloc::{AllocError, Global};
 
 impl Project {
@@ -36,7 +36,7 @@ fn list_names(names: &mut Bounded<Name, 24>, project: &Project)
 {
     names.clear();
     for i in 0..project.count {
-        names.push(project.table.rows[i].name);
+        let _ = names.push(project.table.rows[i].name);
     }
 }
 
@@ -46,7 +46,7 @@ fn add_needs(needs: &mut Bounded<Need<Name>, 96>, item: usize, imports: &[Name])
     ensures { held needs.new ≡ held needs.old ++ needs_for item imports.now }
 {
     for n in imports {
-        needs.push(Need { item, key: *n });
+        let _ = needs.push(Need { item, key: *n });
     }
 }
 
@@ -69,7 +69,7 @@ fn list_whole(whole: &mut Bounded<usize, 24>, project: &Project)
             .lack(project.table.rows[i].imports.as_slice())
             .is_none()
         {
-            whole.push(i);
+            let _ = whole.push(i);
         }
     }
 }
@@ -149,7 +149,7 @@ impl Links {
     }
 
     // Orders the units, whose names are listed.
-    fn arrange(&mut self, project: &Project) -> Ordered
+    fn arrange(&mut self, project: &Project) -> Result<(), Unordered>
         requires { held self.old.names ≡ names_of (members project.now) }
         ensures { Arranged (members project.now) self.new.places result (ordered name_cmp (names_of (members project.now)) (needs_of 0 (members project.now))) }
     {
@@ -174,7 +174,7 @@ impl Links {
             });
         }
         match self.arrange(project) {
-            Ordered::Stuck(i) => Err(Refusal::ImportCircle {
+            Err(Unordered::Stuck(i)) => Err(Refusal::ImportCircle {
                 unit: project.name_at(i),
             }),
             _ => {

@@ -31,9 +31,9 @@ impl Unit {
     {
         self.name = name;
         self.imports.clear();
-        self.imports.extend(imports);
+        let _ = self.imports.extend(imports);
         self.source.clear();
-        self.source.extend(source);
+        let _ = self.source.extend(source);
     }
 
     // Its name.

@@ -102,7 +102,7 @@ fn put_word(source: &[u8], i: usize, ended: Option<usize>, tokens: &mut Bounded<
 {
     match ended {
         Some(start) => {
-            tokens.push(form_of(&source[start..i]));
+            let _ = tokens.push(form_of(&source[start..i]));
         }
         None => {}
     }
@@ -115,7 +115,7 @@ fn put(own: Option<Token>, tokens: &mut Bounded<Token, 513>)
 {
     match own {
         Some(token) => {
-            tokens.push(token);
+            let _ = tokens.push(token);
         }
         None => {}
     }

@@ -45,9 +45,9 @@ fn fill(source: &[u8], out: &mut Product)
     out.clear();
     let front = source.len().min(8);
     let _ = out.interface.push(d_row());
-    out.code.extend(&source[0..front]);
-    out.code.push(0x3F);
-    out.entries.push(0);
+    let _ = out.code.extend(&source[0..front]);
+    let _ = out.code.push(0x3F);
+    let _ = out.entries.push(0);
 }
 
 impl Translator for Echo {

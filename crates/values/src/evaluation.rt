@@ -123,7 +123,7 @@ pub(crate) fn learn(
     match value {
         Some(value) => {
             let name = d.name;
-            known.push(Known { name, value });
+            let _ = known.push(Known { name, value });
             Ok(())
         }
         None => {

@@ -17,7 +17,7 @@ pub fn keep_constants(declarations: &[Declaration], out: &mut Bounded<Declaratio
     out.clear();
     for d in declarations {
         if !d.function {
-            out.push(*d);
+            let _ = out.push(*d);
         }
     }
 }
@@ -29,7 +29,7 @@ pub fn keep_lines(constants: &[Declaration], out: &mut Bounded<u16, 12>)
 {
     out.clear();
     for d in constants {
-        out.push(d.line);
+        let _ = out.push(d.line);
     }
 }
 
@@ -67,7 +67,7 @@ fn add_needs(
     for d in constants {
         if is_mentioned(&d.name, tokens) {
             let key = d.line;
-            out.push(Need { item, key });
+            let _ = out.push(Need { item, key });
         }
     }
 }

@@ -14,7 +14,7 @@ use crate::needed::{keep_constants, keep_lines, keep_needs};
 use bounded::Bounded;
 use grammar::Declaration;
 use names::Fault;
-use order::{Need, Ordered, order};
+use order::{Need, Unordered, order};
 use product::Interface;
 use std::alloc::{AllocError, Global};
 use tokens::Token;
@@ -96,15 +96,15 @@ fn settle(
 {
     let mut places = [0usize; 12];
     match order(keys, needs, &mut places) {
-        Ordered::All => value_all(
+        Ok(()) => value_all(
             tokens,
             imports,
             constants,
             &places[0..constants.len()],
             known,
         ),
-        Ordered::Stuck(place) => Err(circle_at(constants, place)),
-        Ordered::Short => Err(Fault { code: 9, line: 0 }),
+        Err(Unordered::Stuck(place)) => Err(circle_at(constants, place)),
+        Err(Unordered::Short) => Err(Fault { code: 9, line: 0 }),
     }
 }
 

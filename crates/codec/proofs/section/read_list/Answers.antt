@@ -1,18 +1,13 @@
 use Rattle.std.proofs.Common.{◌≡◌, ℕ, ◌+◌, ◌-◌, List, [], ◌∷◌, ◌++◌, length, ap, ◌∙◌, length-append}
 use Rattle.bounded.specs.Held.{held}
 use Rattle.codec.specs.Format.{left, many}
-use Rattle.codec.proofs.Many.{onto, refused, many_goes, many_stops}
+use Rattle.codec.proofs.Many.{onto, many_goes}
 use Rattle.codec.proofs.section.read_list.Goals as goal
 
 one_more : {X : Type 0} (xs ys : List X) (x : X) (i : ℕ) → ys ≡ xs ++ x ∷ [] → length xs ≡ i → length ys ≡ i + 1
 one_more xs ys x i e h = ap length e ∙ length-append xs (x ∷ []) ∙ ap (λ n. n + 1) h
 
-pub returns-in_err-x : goal.returns-in_err-x
-returns-in_err-x g c =
-    refused c.from_residual.result (held c.loop.into) (left c.read.new.input) _ c.from_residual.ensures.0
-    (many_stops c.args.count c.loop.counter g.T.Field.format.get (left c.loop.input) (held c.loop.into) _ c.loop-test.true c.loop.invariant.1 c.in_err-x.ensures)
-
 pub loop-preserved : goal.loop-preserved
 loop-preserved g c =
-    let e : held c.push.new.self ≡ held c.loop.into ++ c.in_ok-x.x ∷ [] = c.if-not-push.ensures.after in
+    let e : held c.push.new.self ≡ held c.loop.into ++ c.in_ok-x.x ∷ [] = c.in_ok-push.ensures.after in
     (one_more (held c.loop.into) (held c.push.new.self) c.in_ok-x.x c.loop.counter e c.loop.invariant.0, ap (λ xs. onto xs (many (c.args.count - (c.loop.counter + 1)) g.T.Field.format.get (left c.read.new.input))) e ∙ many_goes c.args.count c.loop.counter g.T.Field.format.get (left c.loop.input) (held c.loop.into) _ c.loop-test.true c.loop.invariant.1 c.in_ok-x.x (left c.read.new.input) c.in_ok-x.ensures)

@@ -1,11 +1,11 @@
-use Rattle.std.proofs.Common.{◌≡◌, ℕ, ◌≤◌, cond, not, List, length, take, drop, ap, ◌∙◌, subst, arith}
+use Rattle.std.proofs.Common.{◌≡◌, ℕ, ◌≤◌, cond, not, List, length, take, drop, ap, ◌∙◌, subst, arith, Err, Result}
 use Rattle.std.proofs.lemmas.List.{length-map, take_at}
 use Rattle.std.proofs.lemmas.Bool.{le-ltb}
 use Rattle.names.specs.declared.name.Name.{Name}
 use Rattle.names.specs.Ordered.{by_name, name_cmp}
 use Rattle.order.specs.declared.Need.{Need}
-use Rattle.order.specs.declared.Ordered.{Ordered}
-use Rattle.order.specs.declared.Ordered.TheVariants.{Short}
+use Rattle.order.specs.declared.Unordered.{Unordered}
+use Rattle.order.specs.declared.Unordered.TheVariants.{Short}
 use Rattle.order.specs.Dependency.{Outcome, all, stuck, placed, ordered, Tells, Answers}
 use Rattle.order.specs.Law.{Lawful}
 use Rattle.order.proofs.Laws.{lawful, once-length}
@@ -16,7 +16,7 @@ use Rattle.project.proofs.Rows.{members-length}
 use Rattle.project.proofs.links.Links.arrange.Goals as goal
 
 -- what the order leaves in the places, where there are enough
-arranged : (vs : List Member) (before after : List ℕ) (r : Ordered) (out : Outcome) → Tells name_cmp (names vs) (needs 0 vs) before after r out → Lawful name_cmp (names vs) (needs 0 vs) out → Arranged vs after r out
+arranged : (vs : List Member) (before after : List ℕ) (r : Result (Unit {0}) Unordered) (out : Outcome) → Tells name_cmp (names vs) (needs 0 vs) before after r out → Lawful name_cmp (names vs) (needs 0 vs) out → Arranged vs after r out
 arranged vs before after r (all done) t l =
     let n : length (names vs) ≡ length vs = length-map vs (λ (v : Member). v.name) in
     let all_of = once-length by_name (names vs) (needs 0 vs) done l.0.0 in
@@ -26,11 +26,11 @@ arranged vs before after r (stuck done i) t l =
     let p = smallest_passes by_name (λ k. not (placed done k)) (names vs) i l.2 in
     (t.0, omega arith)
 
-told : (vs : List Member) (keys : List Name) (ns : List (Need Name)) (before after : List ℕ) (r : Ordered) → keys ≡ names vs → ns ≡ needs 0 vs → length vs ≤ length before → Answers name_cmp keys ns before after r → Tells name_cmp (names vs) (needs 0 vs) before after r (ordered name_cmp (names vs) (needs 0 vs))
+told : (vs : List Member) (keys : List Name) (ns : List (Need Name)) (before after : List ℕ) (r : Result (Unit {0}) Unordered) → keys ≡ names vs → ns ≡ needs 0 vs → length vs ≤ length before → Answers name_cmp keys ns before after r → Tells name_cmp (names vs) (needs 0 vs) before after r (ordered name_cmp (names vs) (needs 0 vs))
 told vs keys ns before after r e f h a =
     let n : length (names vs) ≡ length vs = length-map vs (λ (v : Member). v.name) in
     let as-listed : Answers name_cmp (names vs) (needs 0 vs) before after r = subst (λ ms. Answers name_cmp (names vs) ms before after r) f (subst (λ ks. Answers name_cmp ks ns before after r) e a) in
-    subst (λ b. cond b ((r ≡ Short) × (after ≡ before)) (Tells name_cmp (names vs) (needs 0 vs) before after r (ordered name_cmp (names vs) (needs 0 vs)))) (le-ltb (length before) (length (names vs)) (omega arith)) as-listed
+    subst (λ b. cond b ((r ≡ Err Short) × (after ≡ before)) (Tells name_cmp (names vs) (needs 0 vs) before after r (ordered name_cmp (names vs) (needs 0 vs)))) (le-ltb (length before) (length (names vs)) (omega arith)) as-listed
 
 pub returns : goal.returns
 returns c =

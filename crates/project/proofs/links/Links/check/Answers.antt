@@ -1,10 +1,10 @@
-use Rattle.std.proofs.Common.{◌≡◌, ℕ, ◌<◌, List, length, take, Some, None, sym, ap, ◌∙◌, arith}
+use Rattle.std.proofs.Common.{◌≡◌, ℕ, ◌<◌, List, length, take, Some, None, sym, ap, ◌∙◌, arith, Err, Result, Ok}
 use Rattle.std.specs.List.{slice_get}
 use Rattle.std.proofs.lemmas.List.{length-map}
 use Rattle.names.specs.declared.name.Name.{Name}
 use Rattle.names.specs.Ordered.{by_name, name_cmp}
-use Rattle.order.specs.declared.Ordered.{Ordered}
-use Rattle.order.specs.declared.Ordered.TheVariants.{Stuck}
+use Rattle.order.specs.declared.Unordered.{Unordered}
+use Rattle.order.specs.declared.Unordered.TheVariants.{Stuck}
 use Rattle.order.specs.Dependency.{Outcome, all, stuck, smallest, ordered}
 use Rattle.order.proofs.Least.{smallest_passes}
 use Rattle.project.specs.Members.{Member, members}
@@ -27,7 +27,7 @@ module _ (vs : List Member) (none : None ≡ smallest name_cmp (lacks vs vs) (na
   by_arranged : by_order vs (ordered name_cmp (names vs) (needs 0 vs)) ≡ checked vs
   by_arranged = ap (by_lack vs) none
 
-  in_circle : (out : Outcome) (places : List ℕ) (i : ℕ) → Arranged vs places (Stuck i) out → (i < length vs) × (by_order vs out ≡ circle (slice_get (names vs) i))
+  in_circle : (out : Outcome) (places : List ℕ) (i : ℕ) → Arranged vs places (Err (Stuck i)) out → (i < length vs) × (by_order vs out ≡ circle (slice_get (names vs) i))
   in_circle (all d) places i h = let e = h.0 in let z : ◌≡◌ {A = ℕ} 0 1 = cc in absurd (omega arith)
   in_circle (stuck d j) places i h =
       let e = h.0 in
@@ -35,7 +35,7 @@ module _ (vs : List Member) (none : None ≡ smallest name_cmp (lacks vs vs) (na
       let b = h.1 in
       (omega arith, ap (λ k. circle (slice_get (names vs) k)) same)
 
-  in_order : (out : Outcome) (places : List ℕ) (r : Ordered) (n : ℕ) → n ≡ length vs → ((x : ℕ) → r ≡ Stuck x → ⊥) → Arranged vs places r out → linked (take n places) ≡ by_order vs out
+  in_order : (out : Outcome) (places : List ℕ) (r : Result (Unit {0}) Unordered) (n : ℕ) → n ≡ length vs → ((x : ℕ) → r ≡ Err (Stuck x) → ⊥) → Arranged vs places r out → linked (take n places) ≡ by_order vs out
   in_order (all d) places r n e no_stop h = ap linked (ap (λ k. take k places) e ∙ h.1)
   in_order (stuck d j) places r n e no_stop h = absurd (no_stop j h.0)
 
