@@ -1,11 +1,8 @@
-use Rattle.std.proofs.Common.{◌≡◌, ℕ, ◌+◌, ◌-◌, List, [], ◌∷◌, ◌++◌, length, ap, ◌∙◌, length-append}
+use Rattle.std.proofs.Common.{◌≡◌, ◌+◌, ◌-◌, [], ◌∷◌, ◌++◌, ap, ◌∙◌}
 use Rattle.bounded.specs.Held.{held}
 use Rattle.codec.specs.Format.{left, many}
-use Rattle.codec.proofs.Many.{onto, many_goes}
+use Rattle.codec.proofs.Many.{onto, one_more, many_goes}
 use Rattle.codec.proofs.section.read_list.Goals as goal
-
-one_more : {X : Type 0} (xs ys : List X) (x : X) (i : ℕ) → ys ≡ xs ++ x ∷ [] → length xs ≡ i → length ys ≡ i + 1
-one_more xs ys x i e h = ap length e ∙ length-append xs (x ∷ []) ∙ ap (λ n. n + 1) h
 
 pub loop-preserved : goal.loop-preserved
 loop-preserved g c =
