@@ -1,6 +1,7 @@
 -- A loop that reads so many elements, one a turn: what it has, put before what the rest gives, is what all give.
-use Rattle.std.proofs.Common.{◌≡◌, ℕ, suc, ◌+◌, ◌-◌, ◌<◌, ◌≤◌, Bool, cond, List, [], ◌∷◌, ◌++◌, Some, None, Option, Ok, Err, Result, IsErr, is_ok, sym, refl, ap, ◌∙◌, append_assoc, append-nil, arith, length, length-append}
+use Rattle.std.proofs.Common.{◌≡◌, ℕ, suc, ◌+◌, ◌-◌, ◌<◌, ◌≤◌, Bool, cond, List, [], ◌∷◌, ◌++◌, map, Some, None, Option, Ok, Err, Result, IsErr, is_ok, sym, refl, ap, ◌∙◌, append_assoc, append-nil, arith, length, length-append}
 use native.Mathlib.Nat.{sub-zero}
+use Rattle.std.proofs.lemmas.List.{map_push}
 use Rattle.std.proofs.lemmas.Bool.{le-leb, lt-leb, true≢false}
 use Rattle.codec.specs.Format.{next, passing, many, many_within, filled}
 
@@ -44,6 +45,14 @@ module _ {X : Type 0} where
 
     pub many_stops : None ≡ get bs → None ≡ R
     many_stops e = ap (λ o. onto acc (next o (λ y ds. next (many (n - (i + 1)) get ds) (λ xs es. Some (y ∷ xs, es))))) e ∙ turn
+
+  -- the same, where what the turn adds is seen by f
+  pub many_adds : {B : Type 0} (f : B → X) (n i : ℕ) (get : List ℕ → Option (X × List ℕ)) (bs : List ℕ) (us now : List B) (R : Option (List X × List ℕ)) (b : B) (cs : List ℕ) →
+      i < n → onto (map f us) (many (n - i) get bs) ≡ R → now ≡ us ++ b ∷ [] → Some (f b, cs) ≡ get bs → onto (map f now) (many (n - (i + 1)) get cs) ≡ R
+  many_adds f n i get bs us now R b cs h inv e read =
+      ap (λ zs. onto (map f zs) (many (n - (i + 1)) get cs)) e
+      ∙ ap (λ xs. onto xs (many (n - (i + 1)) get cs)) (map_push f us b)
+      ∙ many_goes n i get bs (map f us) R h inv (f b) cs read
 
   pub many-ends : (n i : ℕ) (get : List ℕ → Option (X × List ℕ)) (bs : List ℕ) (acc : List X) (R : Option (List X × List ℕ)) → n ≤ i →
       onto acc (many (n - i) get bs) ≡ R → Some (acc, bs) ≡ R

@@ -28,7 +28,7 @@ impl Field for u16 {
     }
 
     fn append<S: Sink>(&self, out: &mut S) {
-        out.put(&self.to_be_bytes());
+        out.put(&u16::to_be_bytes(*self));
     }
 }
 
@@ -40,7 +40,7 @@ impl Field for i32 {
     }
 
     fn append<S: Sink>(&self, out: &mut S) {
-        out.put(&self.to_be_bytes());
+        out.put(&i32::to_be_bytes(*self));
     }
 }
 
