@@ -22,15 +22,10 @@ fn may_follow(b: u8) -> bool
 fn is_tail(bytes: &[u8]) -> bool
     ensures { result ≡ tail bytes.now }
 {
-    let mut ended = false;
-    for b in bytes {
-        if *b == 0 {
-            ended = true;
-        } else if ended || !may_follow(*b) {
-            return false;
-        }
-    }
-    true
+    bytes
+        .iter()
+        .skip_while(|b| may_follow(**b))
+        .all(|b| *b == 0)
 }
 
 // Letters or digits only.

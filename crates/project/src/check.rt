@@ -174,13 +174,14 @@ impl Links {
             });
         }
         match self.arrange(project) {
-            Err(Unordered::Stuck(i)) => Err(Refusal::ImportCircle {
-                unit: project.name_at(i),
-            }),
-            _ => {
+            Ok(()) => {
                 self.count = project.count;
                 Ok(())
             }
+            Err(Unordered::Stuck(i)) => Err(Refusal::ImportCircle {
+                unit: project.name_at(i),
+            }),
+            Err(Unordered::Short) => unreachable(),
         }
     }
 }

@@ -1,4 +1,4 @@
-use Rattle.std.proofs.Common.{◌<◌, ◌++◌, length, take, sym, ap, ◌∙◌, append-nil, arith}
+use Rattle.std.proofs.Common.{is_ok, ◌<◌, ◌++◌, length, take, sym, ap, ◌∙◌, append-nil, arith}
 use Rattle.std.specs.Option.{option_to_list}
 use Rattle.std.proofs.lemmas.List.{take_all}
 use Rattle.bounded.specs.Held.{held}
@@ -17,10 +17,10 @@ loop-p-preserved c =
     let inv = c.loop-p.invariant in (
       (λ few.
           let room : length (held c.loop-p.names) < 24 = let a = inv.1 in let b = c.loop-p-test.true in omega arith in
-          grown (held c.loop-p.names) (held c.push.new.self) (names (in_order vs (take i ps))) c.in-Some.name c.push.result 24 c.push.ensures.fits c.push.ensures.after room (inv.0 few)
+          grown (held c.loop-p.names) (held c.push.new.self) (names (in_order vs (take i ps))) c.in-Some.name (is_ok c.push.result) 24 c.push.ensures.fits c.push.ensures.after room (inv.0 few)
           ∙ ap (λ o. names (in_order vs (take i ps)) ++ option_to_list o) c.in-Some.ensures
           ∙ sym (names_more vs ps i c.loop-p-test.true)),
-      few_names (held c.loop-p.names) (held c.push.new.self) c.in-Some.name c.push.result i c.push.ensures.after inv.1,
+      few_names (held c.loop-p.names) (held c.push.new.self) c.in-Some.name (is_ok c.push.result) i c.push.ensures.after inv.1,
     )
 
 pub loop-p-preserved-in_default : goal.loop-p-preserved-in_default

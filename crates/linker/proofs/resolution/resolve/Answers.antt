@@ -1,4 +1,4 @@
-use Rattle.std.proofs.Common.{◌≡◌, ◌<◌, [], ◌∷◌, ◌++◌, map, length, get_or, take, sym, ap, ◌∙◌, arith}
+use Rattle.std.proofs.Common.{is_ok, ◌≡◌, ◌<◌, [], ◌∷◌, ◌++◌, map, length, get_or, take, sym, ap, ◌∙◌, arith}
 use Rattle.std.proofs.lemmas.List.{map_more, length-map, length-take-le, take_all}
 use Rattle.bounded.specs.Held.{held}
 use Rattle.product.specs.declared.row.Reference.{Reference}
@@ -19,7 +19,7 @@ loop-r-preserved c =
     let t = c.loop-r-test.true in
     let n = c.requires in
     omega arith in
-    grown (held c.loop-r.targets) (held c.push.new.self) (map f (take i rs)) (record { unit = c.target.result; entry = (get_or rs i zero).entry }) c.push.result 32 c.push.ensures.fits c.push.ensures.after few c.loop-r.invariant
+    grown (held c.loop-r.targets) (held c.push.new.self) (map f (take i rs)) (record { unit = c.target.result; entry = (get_or rs i zero).entry }) (is_ok c.push.result) 32 c.push.ensures.fits c.push.ensures.after few c.loop-r.invariant
     ∙ ap (λ u. map f (take i rs) ++ record { unit = u; entry = (get_or rs i zero).entry } ∷ []) c.target.ensures
     ∙ sym (map_more f rs i zero c.loop-r-test.true)
 

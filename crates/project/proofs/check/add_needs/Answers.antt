@@ -1,4 +1,4 @@
-use Rattle.std.proofs.Common.{◌≡◌, ◌<◌, [], ◌∷◌, ◌++◌, length, take, sym, ap, ◌∙◌, arith, length-append}
+use Rattle.std.proofs.Common.{◌≡◌, ◌<◌, [], ◌∷◌, ◌++◌, length, take, sym, ap, ◌∙◌, arith, length-append, is_ok}
 use Rattle.std.proofs.lemmas.List.{map_more, append_assoc, take_all, length-map, length-take-le}
 use Rattle.bounded.specs.Held.{held}
 use Rattle.names.specs.declared.name.Name.{Name}
@@ -19,7 +19,7 @@ loop-n-preserved c =
     let part = length-take-le i xs (omega arith) in
     let whole = ap length c.loop-n.invariant in
     let room : length (held c.loop-n.needs) < 96 = omega arith in
-    grown (held c.loop-n.needs) (held c.push.new.self) (was ++ so_far) new c.push.result 96 c.push.ensures.fits c.push.ensures.after room c.loop-n.invariant
+    grown (held c.loop-n.needs) (held c.push.new.self) (was ++ so_far) new (is_ok c.push.result) 96 c.push.ensures.fits c.push.ensures.after room c.loop-n.invariant
     ∙ append_assoc was so_far (new ∷ [])
     ∙ ap (λ ys. was ++ ys) (ap (λ n. so_far ++ record { item = c.args.item; key = n } ∷ []) c.n-item.is ∙ sym (map_more (λ (n : Name). record { item = c.args.item; key = n }) xs i c.n-item.result c.loop-n-test.true))
 

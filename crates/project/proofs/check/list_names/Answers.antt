@@ -1,4 +1,4 @@
-use Rattle.std.proofs.Common.{◌≡◌, ◌<◌, [], ◌∷◌, ◌++◌, length, take, sym, ap, ◌∙◌, arith}
+use Rattle.std.proofs.Common.{◌≡◌, ◌<◌, [], ◌∷◌, ◌++◌, length, take, sym, ap, ◌∙◌, arith, is_ok}
 use Rattle.std.proofs.lemmas.List.{map_more, take_all, length-map, length-take-le}
 use Rattle.bounded.specs.Held.{held}
 use Rattle.project.specs.Members.{Member, member, members}
@@ -18,7 +18,7 @@ loop-i-preserved c =
     let as_many : length (names (take i (members p))) ≡ length (take i (members p)) = length-map (take i (members p)) (λ (v : Member). v.name) in
     let so_far = ap length c.loop-i.invariant in
     let room : length (held c.loop-i.names) < 24 = omega arith in
-    grown (held c.loop-i.names) (held c.push.new.self) (names (take i (members p))) u.name c.push.result 24 c.push.ensures.fits c.push.ensures.after room c.loop-i.invariant
+    grown (held c.loop-i.names) (held c.push.new.self) (names (take i (members p))) u.name (is_ok c.push.result) 24 c.push.ensures.fits c.push.ensures.after room c.loop-i.invariant
     ∙ ap (λ (v : Member). names (take i (members p)) ++ v.name ∷ []) (sym (row_at p i u (member u) c.loop-i-test.true c.index.ensures))
     ∙ sym (map_more (λ (v : Member). v.name) (members p) i (member u) (omega arith))
 

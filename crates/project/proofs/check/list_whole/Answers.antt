@@ -1,4 +1,4 @@
-use Rattle.std.proofs.Common.{◌≡◌, ◌<◌, not, ◌&&◌, [], ◌∷◌, ◌++◌, length, is_some, sym, refl, ap, ◌∙◌, arith}
+use Rattle.std.proofs.Common.{◌≡◌, ◌<◌, not, ◌&&◌, [], ◌∷◌, ◌++◌, length, is_some, sym, refl, ap, ◌∙◌, arith, is_ok}
 use Rattle.std.proofs.lemmas.List.{length_push}
 use Rattle.std.proofs.lemmas.Bool.{lt-ltb}
 use Rattle.bounded.specs.Held.{held}
@@ -24,7 +24,7 @@ loop-i-preserved c =
       | then-is_none w ↦
           let room : length (held c.loop-i.whole) < 24 = omega arith in
           let now : held c.if-is_none.whole ≡ held c.loop-i.whole ++ i ∷ [] =
-          ap held w.whole-is ∙ grown (held c.loop-i.whole) (held w.push.new.self) (held c.loop-i.whole) i w.push.result 24 w.push.ensures.fits w.push.ensures.after room refl in
+          ap held w.whole-is ∙ grown (held c.loop-i.whole) (held w.push.new.self) (held c.loop-i.whole) i (is_ok w.push.result) 24 w.push.ensures.fits w.push.ensures.after room refl in
           let size = ap length now ∙ length_push (held c.loop-i.whole) i in
           (omega arith, whole-more (lacks vs vs) i (held c.loop-i.whole) (held c.if-is_none.whole) c.loop-i.invariant.1 (here ∙ ap not w.if-is_none.true) now)
       | else-is_none w ↦
