@@ -19,6 +19,7 @@ fn read_run<T: Field + Drop, const N: usize>(
     ensures { run_read result (held into.new) (left input.new) ≡ run T.Field.format.get unit N rows (left input.old) }
 {
     into.clear();
+    // kept as a count: how many rows are left is the answer
     for taken in 0..rows {
         let Ok(()) = input.skip(unit) else {
             return Ok(rows - taken);
