@@ -1,8 +1,8 @@
 -- Written names are padded names with zero bytes behind.
-use Rattle.std.proofs.Common.{◌≡◌, ℕ, zero, suc, ◌-◌, ◌+◌, ◌<◌, ◌≤◌, true, false, cond, ◌&&◌, eqb, leb, List, [], ◌∷◌, ◌++◌, length, get_or, drop, replicate, sym, refl, ap, ◌∙◌, arith, length-append}
+use Rattle.std.proofs.Common.{◌≡◌, ℕ, zero, suc, ◌-◌, ◌+◌, ◌≤◌, true, false, cond, ◌&&◌, eqb, leb, List, [], ◌∷◌, ◌++◌, length, drop, replicate, sym, refl, ap, ◌∙◌, arith, length-append}
 use lib.ListN.{length-replicate}
 use Rattle.std.specs.List.{prefix_len}
-use Rattle.std.proofs.lemmas.Bool.{true≢false, and_parts, eqb-true, leb-true, le-leb, lt-leb, eq-eqb, ne_eqb}
+use Rattle.std.proofs.lemmas.Bool.{true≢false, and_parts, eqb-true, leb-true, eq-eqb, ne_eqb}
 use Rattle.names.specs.Spelling.{letter, continues, blank, tail, padded_name, plain, written_name, padded}
 
 blank_zeros : (n : ℕ) → blank (replicate n 0) ≡ true
@@ -30,22 +30,9 @@ padded_is_name (b ∷ bs) h =
     let e : length (bs ++ replicate (8 - suc (length bs)) 0) ≡ 7 = simp (length-append, length-replicate) (omega arith) in
     simp (q.0, tail_after bs (8 - suc (length bs)) q.1, eq-eqb (length (bs ++ replicate (8 - suc (length bs)) 0)) 7 e)
 
--- a name by its first byte and the rest
-pub padded-parts : (bs : List ℕ) → length bs ≡ 8 → padded_name bs ≡ (letter (get_or bs 0 0) && tail (drop 1 bs))
-padded-parts [] h = absurd (omega arith)
-padded-parts (b ∷ bs) h = let e : length bs ≡ 7 = omega arith in ap (λ x. x && (letter b && tail bs)) (eq-eqb (length bs) 7 e)
-
 pub padded_long : (bs : List ℕ) → (length bs ≡ 8 → ⊥) → padded_name bs ≡ false
 padded_long [] h = refl
 padded_long (b ∷ bs) h = ap (λ x. x && (letter b && tail bs)) (ne_eqb (length bs) 7 (λ e. h (ap suc e)))
-
-pub written-parts : (bs : List ℕ) → 0 < length bs → length bs ≤ 8 → written_name bs ≡ (letter (get_or bs 0 0) && plain (drop 1 bs))
-written-parts [] h k = absurd (omega arith)
-written-parts (b ∷ bs) h k = let e : length bs ≤ 7 = omega arith in ap (λ x. x && (letter b && plain bs)) (le-leb (length bs) 7 e)
-
-pub written_long : (bs : List ℕ) → 8 < length bs → written_name bs ≡ false
-written_long [] h = refl
-written_long (b ∷ bs) h = let e : 7 < length bs = omega arith in ap (λ x. x && (letter b && plain bs)) (lt-leb (length bs) 7 e)
 
 -- a name has eight bytes
 pub padded_eight : (bs : List ℕ) → padded_name bs ≡ true → length bs ≡ 8
