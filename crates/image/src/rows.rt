@@ -63,7 +63,7 @@ impl<T: Field + Drop, const N: usize> Column<T, N> {
         ensures few { length (used self.new.lists) ≤ units }
     {
         self.lists.clear();
-        Malformed::unless(input.byte()? == units)?;
+        Malformed::unless(u8::read(input)? == units)?;
         for _ in 0..units {
             u16::read_section(input, &mut self.next)?;
             self.lists.add(&mut self.next)?;
