@@ -26,7 +26,7 @@ pub fn prepare(done: &Done, unit: &Unit, fresh: &mut Artifact)
     fresh.clear();
     let _ = fresh.source.extend(unit.source());
     for name in unit.imports() {
-        fresh.add_import(done.interface(*name));
+        let _ = fresh.add_import(done.interface(*name));
     }
 }
 

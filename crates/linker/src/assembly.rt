@@ -91,7 +91,7 @@ fn add_unit(
             reference: k as u8,
         });
     }
-    image.add(
+    let _ = image.add(
         unit.name(),
         product.code.as_slice(),
         product.entries.as_slice(),

@@ -1,4 +1,4 @@
-use Rattle.std.proofs.Common.{map, length, get_or, ap, ◌∙◌, arith}
+use Rattle.std.proofs.Common.{map, length, is_ok, get_or, ap, ◌∙◌, arith}
 use Rattle.std.proofs.lemmas.List.{take_all}
 use Rattle.bounded.specs.Held.{held}
 use Rattle.bounded.proofs.Few.{held_few}
@@ -15,7 +15,7 @@ loop-name-preserved c =
     let items = c.imports-name-items.ensures in
     let few = held_few c.args.unit.now.imports in
     let size = ap length items in
-    one_import (held c.args.unit.now.source) (interface_of (done_list c.args.done.now)) names c.loop-name.name-index c.name-item.result (rows c.interface.result.now) (art c.loop-name.fresh) (art c.add_import.new.self) c.add_import.result
+    one_import (held c.args.unit.now.source) (interface_of (done_list c.args.done.now)) names c.loop-name.name-index c.name-item.result (rows c.interface.result.now) (art c.loop-name.fresh) (art c.add_import.new.self) (is_ok c.add_import.result)
     (omega arith) few (c.name-item.is ∙ ap (λ ns. get_or ns c.loop-name.name-index c.name-item.result) items) c.interface.ensures c.loop-name.invariant c.add_import.ensures.fits c.add_import.ensures.after
 
 pub returns : goal.returns

@@ -1,4 +1,4 @@
-use Rattle.std.proofs.Common.{◌≡◌, ℕ, ◌≤◌, not, List, length, sym, ap, ◌∙◌, subst, arith}
+use Rattle.std.proofs.Common.{◌≡◌, ℕ, ◌≤◌, not, List, length, is_ok, sym, ap, ◌∙◌, subst, arith}
 use Rattle.std.specs.Option.{option_map}
 use Rattle.bounded.specs.Held.{held}
 use Rattle.bounded.proofs.Few.{held_few}
@@ -59,7 +59,7 @@ returns c = λ u d place here room.
     let ts : held c.resolve.new.targets ≡ targets_of c.args.names.now c.args.i u d =
     targets_are c.args.names.now c.args.i u d x p c.imports.result.now c.as_slice.result.now (held c.resolve.new.targets) is made c.imports.ensures c.as_slice.ensures c.resolve.ensures in (
       ap (lacking (entries_of (done_list c.args.done.now))) (sym ts) ∙ ap (lacking (entries_of (done_list c.args.done.now))) (sym c.as_slice-2.ensures) ∙ sym c.in_default-first_lacking.ensures,
-      with_all (units c.args.image.now) (units c.add.new.self) u d x p c.name-2.result c.as_slice-3.result.now c.as_slice-4.result.now (targets_of c.args.names.now c.args.i u d) c.as_slice-5.result.now c.add.result is made c.name-2.ensures c.as_slice-3.ensures c.as_slice-4.ensures (c.as_slice-5.ensures ∙ ts) room
+      with_all (units c.args.image.now) (units c.add.new.self) u d x p c.name-2.result c.as_slice-3.result.now c.as_slice-4.result.now (targets_of c.args.names.now c.args.i u d) c.as_slice-5.result.now (is_ok c.add.result) is made c.name-2.ensures c.as_slice-3.ensures c.as_slice-4.ensures (c.as_slice-5.ensures ∙ ts) room
           (subst (λ (xs : List ℕ). length xs ≤ 384) (sym c.as_slice-3.ensures) (held_few c.in-Some-product.product.now.code))
           (subst (λ (xs : List ℕ). length xs ≤ 12) (sym c.as_slice-4.ensures) (held_few c.in-Some-product.product.now.entries))
           (subst (λ (xs : List Target). length xs ≤ 32) (sym c.as_slice-5.ensures) (held_few c.resolve.new.targets))
