@@ -63,10 +63,7 @@ fn source(rt: &HostRuntime, line: &Line<'_>, file: &[u8]) -> anyhow::Result<Vec<
 // The words behind the source file, as names.
 fn imports(rt: &HostRuntime, line: &Line<'_>) -> anyhow::Result<Vec<Name>> {
     let mut imports = Vec::new(rt.alloc());
-    for place in 2..line.text.len() {
-        let Some(word) = line.word(place) else {
-            break;
-        };
+    for word in (2..usize::MAX).map_while(|place| line.word(place)) {
         imports.push(name(rt, line, word)?)?;
     }
     Ok(imports)
