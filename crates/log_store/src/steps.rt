@@ -17,7 +17,7 @@ impl LogStore {
     pub(crate) fn is_full_for(&self, name: Name) -> bool
         ensures { result ≡ (nat_le self.now.rows (length (pairs_of self.now)) && not (has (pairs_of self.now) name.bytes)) }
     {
-        self.count >= self.rows && self.find(name).is_none()
+        self.live() >= self.rows && self.find(name).is_none()
     }
 
     // Marks the live record of the name dead; says whether there was one.
@@ -32,7 +32,6 @@ impl LogStore {
             return false;
         };
         bury(&mut self.area, at);
-        self.count -= 1;
         true
     }
 
@@ -61,7 +60,6 @@ impl LogStore {
     {
         write(&mut self.area, self.end, name, content)?;
         self.end += HEADER + content.len();
-        self.count += 1;
         Ok(())
     }
 }
