@@ -3,8 +3,8 @@ ghost use Rattle.store.specs.Pairs.{once};
 ghost use Rattle.area.specs.Layout.{rows_of};
 ghost use Rattle.log_store.specs.Chain.{records, all_exact, log_pairs};
 
-// An area of the caller's with its number of rows and the end of the log in it. The bytes up to the end are records one behind the
-// other, no name is live twice, and there are no more live ones than rows.
+// An area of the caller's with its number of rows, which opening fixes, and the end of the log in it. The bytes up to the end are
+// records one behind the other, no name is live twice, and there are no more live ones than rows.
 #[derive(Drop)]
 pub struct LogStore {
     pub(crate) area: Vec<u8>,

@@ -1,5 +1,5 @@
 // The three steps of a put: the old record marked dead, room made, the new record appended.
-ghost use Rattle.std.specs.Prelude.{◌≡◌, ℕ, ◌+◌, ◌<◌, ◌≤◌, true, false, not, ◌&&◌, List, [], ◌∷◌, ◌++◌, length, if◌then◌else◌, vec_len, nat_eq, nat_le};
+ghost use Rattle.std.specs.Prelude.{◌≡◌, ◌+◌, ◌<◌, ◌≤◌, true, false, not, ◌&&◌, [], ◌∷◌, ◌++◌, length, if◌then◌else◌, vec_len, nat_eq, nat_le};
 ghost use Rattle.names.specs.Refusals.{answer};
 ghost use Rattle.store.specs.Pairs.{pair, has, without};
 ghost use Rattle.area.specs.Layout.{slot_size, laid, lay_number};
@@ -20,7 +20,7 @@ impl LogStore {
         self.live() >= self.rows && self.find(name).is_none()
     }
 
-    // Marks the live record of the name dead; says whether there was one.
+    // Marks the live record of the name dead; says whether there was one, for a drop's answer.
     pub(crate) fn end_pair(&mut self, name: Name) -> bool
         ensures found { result ≡ has (pairs_of self.old) name.bytes }
         ensures marks { records_of self.new ≡ marked name.bytes (records_of self.old) }
