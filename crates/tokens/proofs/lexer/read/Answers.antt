@@ -1,8 +1,8 @@
-use Rattle.std.proofs.Common.{◌≡◌, ◌+◌, ◌≤◌, [], ◌++◌, length, get_or, drop, IfSome, sym, ap, ◌∙◌, subst, arith}
+use Rattle.std.proofs.Common.{◌≡◌, ◌+◌, ◌≤◌, [], ◌++◌, length, if◌then◌else◌, get_or, drop, IfSome, sym, ap, ◌∙◌, subst, arith}
 use Rattle.std.proofs.lemmas.List.{append-nil}
 use Rattle.std.proofs.lemmas.Bool.{le-leb}
 use Rattle.bounded.specs.Held.{held}
-use Rattle.tokens.specs.Stream.{reading, Begun}
+use Rattle.tokens.specs.Stream.{reading, stream, Begun}
 use Rattle.tokens.proofs.Turns.{word_room, own_room, joined, turn_is, end_is, begun-next, begun-ended}
 use Rattle.tokens.proofs.lexer.read.Goals as goal
 
@@ -51,11 +51,13 @@ put-requires-2 c =
     let s = c.loop-i.lexer.state in
     own_room src (length src) 10 s _ _ (held c.loop-i.tokens) c.if-source-gt512.false c.step-last.ensures.ends c.step-last.ensures.brings [] _ (end_is src s c.loop-i.i (held c.loop-i.tokens) c.loop-i-test.false c.loop-i.auto.i-end c.loop-i.invariant.0) c.put_word-2.ensures
 
-pub returns : goal.returns
-returns c =
+pub returns-clause-answered : goal.returns-clause-answered
+returns-clause-answered c = ap (λ b. if b then 0 else 12) (sym (le-leb (length c.args.source.now) 512 c.if-source-gt512.false))
+
+pub returns-clause-after : goal.returns-clause-after
+returns-clause-after c =
     let src = c.args.source.now in
     let s = c.loop-i.lexer.state in
-    record {
-      reads = sym (le-leb (length src) 512 c.if-source-gt512.false);
-      after = sym (append-nil (held c.put-2.new.tokens)) ∙ joined src (length src) 10 s _ _ (held c.loop-i.tokens) c.if-source-gt512.false c.step-last.ensures.ends c.step-last.ensures.brings [] _ _ (end_is src s c.loop-i.i (held c.loop-i.tokens) c.loop-i-test.false c.loop-i.auto.i-end c.loop-i.invariant.0) c.put_word-2.ensures c.put-2.ensures;
-    }
+    sym (append-nil (held c.put-2.new.tokens))
+    ∙ joined src (length src) 10 s _ _ (held c.loop-i.tokens) c.if-source-gt512.false c.step-last.ensures.ends c.step-last.ensures.brings [] _ _ (end_is src s c.loop-i.i (held c.loop-i.tokens) c.loop-i-test.false c.loop-i.auto.i-end c.loop-i.invariant.0) c.put_word-2.ensures c.put-2.ensures
+    ∙ ap (λ b. if b then stream src else held c.args.tokens.now) (sym (le-leb (length src) 512 c.if-source-gt512.false))
