@@ -1,6 +1,6 @@
 // Each test takes sources with the fault that they have, or with the code that they give.
 use formula::Formula;
-use names::Name;
+use names::{Fault, Name};
 use product::{Interface, Product, Row};
 use std::alloc::Global;
 use std::test::Fail;
@@ -11,17 +11,17 @@ fn check(holds: bool, what: &str) -> Result<(), Fail> {
     if holds { Ok(()) } else { Err(Fail::new(what)) }
 }
 
-// The product that a source translates to, or its fault by code and line.
+// The product that a source translates to, or its fault.
 fn translated(
     heap: Global,
     source: &[u8],
     imports: &[Interface],
-) -> Result<Result<Product, (u8, u16)>, Fail> {
+) -> Result<Result<Product, Fault>, Fail> {
     let mut translator = Formula::open(heap)?;
     let mut out = Product::open(heap)?;
     Ok(match translator.translate(source, imports, &mut out) {
         Ok(()) => Ok(out),
-        Err(fault) => Err((fault.code, fault.line)),
+        Err(fault) => Err(fault),
     })
 }
 
@@ -40,7 +40,7 @@ fn faults_with(
 ) -> Result<(), Fail> {
     match translated(heap, source, imports.as_slice())? {
         Ok(_) => Err(Fail::new("no fault")),
-        Err(fault) => check(fault == (code, line), "the fault's code and line"),
+        Err(fault) => check(fault == Fault { code, line }, "the fault's code and line"),
     }
 }
 

@@ -8,14 +8,14 @@ pub enum Kind {
 }
 
 // What a line declares.
-#[derive(Clone, Copy, PartialEq, Eq)]
+#[derive(Clone, Copy, Debug, PartialEq, Eq)]
 pub struct Declared {
     pub kind: Kind,
     pub name: Name,
 }
 
 // A constant or a function: its name, its line, and where its expression stands among the tokens.
-#[derive(Clone, Copy, PartialEq, Eq)]
+#[derive(Clone, Copy, Debug, PartialEq, Eq)]
 pub struct Declaration {
     pub kind: Kind,
     pub name: Name,

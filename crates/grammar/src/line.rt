@@ -125,13 +125,10 @@ fn after_name(kind: Kind, name: Name, tokens: &[Token]) -> Option<Declared>
     ensures { result ≡ equated kind name tokens.now }
 {
     let (token, body) = tokens.split_first()?;
-    if !is_equals(token) || !is_whole(body) {
-        return None;
+    if is_equals(token) && is_whole(body) && (kind == Kind::Function || all_constant(body)) {
+        return Some(Declared { kind, name });
     }
-    match kind {
-        Kind::Constant if !all_constant(body) => None,
-        _ => Some(Declared { kind, name }),
-    }
+    None
 }
 
 fn after_keyword(kind: Kind, tokens: &[Token]) -> Option<Declared>
