@@ -3,7 +3,7 @@ use Rattle.std.specs.List.{list_all, zip}
 use Rattle.std.proofs.lemmas.Iterator.{YieldsList-from_slice, YieldsList-from_zip}
 use Rattle.std.proofs.lemmas.Iterator.Search.{all_from_yields_List}
 use Rattle.bounded.specs.Held.{held, used}
-use Rattle.image.proofs.image.Image.all_placed.Goals as goal
+use Rattle.image.proofs.sections.Sections.all_placed.Goals as goal
 
 -- a test of pairs of what two lists hold
 zip_held : {A B X Y : Type 0} (t : X → Y → Bool) (f : A → X) (g : B → Y) (xs : List A) (bs : List B) → list_all (λ p. t (f p.0) (g p.1)) (zip xs bs) ≡ list_all (λ p. t p.0 p.1) (zip (map f xs) (map g bs))

@@ -1,12 +1,12 @@
 use Rattle.std.proofs.Common.{◌++◌, length, lit<}
 use Rattle.codec.specs.Format.{pair, code}
 use Rattle.image.specs.Dealt.{dealt}
-use Rattle.image.specs.Picture.{units, target, names, exactly}
-use Rattle.image.proofs.image.Image.append_sections.Goals as goal
+use Rattle.image.specs.Picture.{parts, target, names, exactly}
+use Rattle.image.proofs.sections.Sections.append_sections.Goals as goal
 
 pub returns : goal.returns
 returns g c =
-    let u = units c.args.self.now in
+    let u = parts c.args.self.now in
     let n = length u.names in
     let cs = (exactly n code).put u.codes in
     let es = (dealt 12 n pair).put u.entries in
