@@ -1,10 +1,9 @@
 -- Linking: each reference resolved to a unit and an entry, by the present imports of its unit.
-use Rattle.std.specs.Prelude.{ℕ, zero, suc, ◌+◌, not, List, [], ◌∷◌, map, Some, None, Option}
+use Rattle.std.specs.Prelude.{ℕ, zero, suc, ◌+◌, not, List, [], ◌∷◌, map, Some, None, Option, position}
 use Rattle.std.specs.Option.{unwrap_or}
 use Rattle.std.specs.List.{slice_get}
 use Rattle.names.specs.declared.name.Name.{Name}
 use Rattle.product.specs.declared.row.Reference.{Reference}
-use Rattle.order.specs.Dependency.{first}
 use Rattle.project.specs.Members.{Member, at}
 use Rattle.project.specs.Checked.{Verdict, missing, circle, linked, nothing, checked}
 use Rattle.image.specs.declared.target.Target.{Target}
@@ -58,7 +57,7 @@ pub data Linking : Type 0 where
 
 -- the first reference whose entry is missing
 abbrev pub lacking : List (List ℕ) → List Target → Option ℕ
-lacking ess ts = first (λ _ t. not (present ess t)) ts
+lacking ess ts = position (λ t. not (present ess t)) ts
 
 abbrev pub link_by : Name → Option ℕ → Linking → Linking
 link_by n (Some k) rest = broken n k
