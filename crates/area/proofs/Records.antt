@@ -1,34 +1,12 @@
 -- A record read where it was laid.
-use Rattle.std.proofs.Common.{◌≡◌, ℕ, ◌+◌, ◌-◌, ◌/◌, ◌%◌, ◌<◌, ◌≤◌, min, Bool, true, false, ◌&&◌, eqb, List, [], ◌∷◌, ◌++◌, length, get_or, take, drop, Decides, sym, refl, ap, ◌∙◌, subst, arith, length-append, length-drop, length-take, rules}
+use Rattle.std.proofs.Common.{◌≡◌, ℕ, ◌+◌, ◌/◌, ◌%◌, ◌≤◌, List, [], ◌∷◌, ◌++◌, length, get_or, take, drop, sym, refl, ap, ◌∙◌, subst, arith, length-append}
 use lib.Seq.{paste}
 use borrow.Rule.Slice.PartMut.{put_mid}
 use Rattle.std.proofs.lemmas.Slice.{put_mid-paste}
 use Rattle.std.proofs.lemmas.List.Edits.{paste-paste}
-use Rattle.std.specs.Str.{bytes_eq}
-use Rattle.std.proofs.lemmas.Slice.Eq.{bytes_eq-Decides}
 use Rattle.std.proofs.lemmas.List.{take_at}
-use Rattle.std.proofs.lemmas.Bool.{true≢false, and_parts, eqb-true}
-use Rattle.names.specs.Spelling.{padded_name, letter, tail}
 use Rattle.store.specs.Pairs.{pair}
-use Rattle.store.proofs.Pairs.{by_test, same_is}
-use Rattle.area.specs.Layout.{header_size, laid, live, key, size, content, held, written}
-
-pub tested : (x y : List ℕ) (r : Bool) → Decides r (x ≡ y) → r ≡ bytes_eq x y
-tested x y r h = search (rules, bytes_eq-Decides)
-
-pub name-length : (bs : List ℕ) → padded_name bs ≡ true → length bs ≡ 8
-name-length [] h = absurd (true≢false (sym h))
-name-length (b ∷ bs) h = let p = and_parts (eqb (length bs) 7) (letter b && tail bs) h in let e : length bs ≡ 7 = eqb-true (length bs) 7 p.0 in omega arith
-
-pub short_differs : (p q : List ℕ) → length p < 9 → length q ≡ 8 → bytes_eq (key p) q ≡ false
-short_differs p q h e =
-    by_test (bytes_eq (key p) q)
-    (λ s. let n : length (take 8 (drop 1 p)) ≡ length q = ap length (same_is (key p) q s) in let m : min 8 (length p - 1) ≡ length q = simp (length-take, length-drop) at n in absurd (omega arith))
-    (λ s. s)
-
-pub live_none : (p : List ℕ) → length p ≡ 0 → live p ≡ false
-live_none [] h = refl
-live_none (x ∷ p) h = absurd (omega arith)
+use Rattle.area.specs.Layout.{header_size, laid, key, size, content, held, written}
 
 -- the eight bytes of a name one by one
 pub eight : (q : List ℕ) → length q ≡ 8 → get_or q 0 0 ∷ get_or q 1 0 ∷ get_or q 2 0 ∷ get_or q 3 0 ∷ get_or q 4 0 ∷ get_or q 5 0 ∷ get_or q 6 0 ∷ get_or q 7 0 ∷ [] ≡ q

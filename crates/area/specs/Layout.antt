@@ -1,5 +1,5 @@
 -- How a record lies in an area: eleven bytes, which are the mark, the name and the length, and then the record.
-use Rattle.std.specs.Prelude.{ℕ, ◌+◌, ◌-◌, ◌*◌, ◌/◌, ◌%◌, min, Bool, cond, ◌&&◌, List, [], ◌∷◌, ◌++◌, length, take, drop, ◌==◌, slice_index}
+use Rattle.std.specs.Prelude.{ℕ, ◌+◌, ◌-◌, ◌*◌, ◌/◌, ◌%◌, min, Bool, cond, ◌&&◌, List, [], ◌∷◌, ◌++◌, length, take, drop, ◌==◌, nat_le, nat_lt, slice_index}
 use Rattle.std.proofs.Math.Seq.{paste}
 use Rattle.std.specs.Str.{bytes_eq}
 use Rattle.store.specs.Pairs.{Pair, pair}
@@ -55,3 +55,7 @@ held p = cond (live p) (pair (key p) (content p) ∷ []) []
 -- the area with a record laid at a place
 abbrev pub written : List ℕ → ℕ → List ℕ → List ℕ → List ℕ
 written xs at q bs = paste xs at (laid q bs) (header_size + length bs)
+
+-- the answer to laying a record of this length at a place of an area: 42 over the limit, 41 where the area is too short, else 0
+abbrev pub lay_number : ℕ → ℕ → ℕ → ℕ
+lay_number whole at n = cond (nat_lt longest n) 42 (cond (nat_le (at + (header_size + n)) whole) 0 41)

@@ -13,7 +13,7 @@ pub const LENGTH_AT: usize = 9;
 pub const LONGEST: usize = 1896;
 
 // The longest record with its header.
-pub const SLOT: usize = 1907;
+pub const SLOT: usize = HEADER + LONGEST;
 
 // The most rows of a store.
 pub const ROWS: usize = 24;

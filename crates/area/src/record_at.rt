@@ -1,12 +1,13 @@
 // The record at the start of a piece of an area, and a record laid at a place.
-ghost use Rattle.std.specs.Prelude.{◌≡◌, ℕ, ◌+◌, ◌/◌, ◌%◌, ◌≤◌, Bool, ◌&&◌, List, [], ◌∷◌, ◌++◌, length, IfOk, if◌then◌else◌, Some, vec_len, nat_le, slice_set};
+ghost use Rattle.std.specs.Prelude.{◌≡◌, ◌/◌, ◌%◌, [], ◌∷◌, ◌++◌, length, IfOk, if◌then◌else◌, Some, vec_len, nat_eq, slice_set};
 ghost use Rattle.std.specs.Str.{bytes_eq};
 ghost use Rattle.names.specs.Refusals.{answer};
 ghost use Rattle.store.specs.Says.{get_number, get_buffer};
-ghost use Rattle.area.specs.Layout.{header_size, longest, rows_of, live, key, size, content, holds, written};
+ghost use Rattle.area.specs.Layout.{rows_of, live, key, size, content, holds, written, lay_number};
 
 use crate::layout::{DEAD, HEADER, LENGTH_AT, LIVE, LONGEST, NAME_AT, ROWS, SLOT};
 use names::{Name, Refusal};
+use store::copy_out;
 
 // The rows of an area of this length.
 pub fn rows(length: usize) -> usize
@@ -26,10 +27,7 @@ pub fn is_held(piece: &[u8], name: Name) -> bool
 pub fn is_live(piece: &[u8]) -> bool
     ensures { result ≡ live piece.now }
 {
-    if piece.len() == 0 {
-        return false;
-    }
-    piece[0] == LIVE
+    piece.first() == Some(&LIVE)
 }
 
 fn is_named(piece: &[u8], name: Name) -> bool
@@ -42,11 +40,20 @@ fn is_named(piece: &[u8], name: Name) -> bool
 pub fn length_of(piece: &[u8]) -> usize
     ensures { result ≡ size piece.now }
 {
-    if piece.len() < HEADER {
+    let Some((header, behind)) = piece.split_first_chunk::<HEADER>() else {
         return 0;
-    }
-    let written = piece[LENGTH_AT] as usize * 256 + piece[LENGTH_AT + 1] as usize;
-    written.min(piece.len() - HEADER)
+    };
+    let written = u16::from_be_bytes([header[LENGTH_AT], header[LENGTH_AT + 1]]);
+    usize::from(written).min(behind.len())
+}
+
+// The record at the piece's start.
+pub fn content(piece: &[u8]) -> &[u8]
+    ensures { result.now ≡ content piece.now }
+{
+    piece
+        .get(HEADER..HEADER + length_of(piece))
+        .unwrap_or(&piece[..0])
 }
 
 // Copies the record at the piece's start to the buffer's start; refused (43) if the buffer is shorter.
@@ -55,14 +62,7 @@ pub fn read(piece: &[u8], buffer: &mut [u8]) -> Result<usize, Refusal>
     ensures told { IfOk result (λ n. n ≡ length (content piece.now)) }
     ensures filled { buffer.new ≡ get_buffer (Some (content piece.now)) buffer.old }
 {
-    let n = length_of(piece);
-    if buffer.len() < n {
-        return Err(Refusal::BufferTooShort);
-    }
-    if n > 0 {
-        buffer[0..n].copy_from_slice(&piece[HEADER..HEADER + n]);
-    }
-    Ok(n)
+    copy_out(content(piece), buffer)
 }
 
 // The header of a live record.
@@ -70,43 +70,28 @@ fn header(name: Name, length: u16) -> [u8; HEADER]
     ensures { result ≡ 1 ∷ (name.bytes ++ (length / 256) ∷ (length % 256) ∷ []) }
 {
     let [a, b, c, d, e, f, g, h] = name.bytes();
-    [
-        LIVE,
-        a,
-        b,
-        c,
-        d,
-        e,
-        f,
-        g,
-        h,
-        (length / 256) as u8,
-        (length % 256) as u8,
-    ]
+    let [high, low] = length.to_be_bytes();
+    [LIVE, a, b, c, d, e, f, g, h, high, low]
 }
 
-// Lays a live record at the place; false, and nothing done, where the record is too long or the area too short.
-fn lay(area: &mut [u8], at: usize, name: Name, content: &[u8]) -> bool
-    ensures fits { result ≡ (nat_le (length content.now) longest && nat_le (at + (header_size + length content.now)) (length area.old)) }
-    ensures after { area.new ≡ (if result then written area.old at name.bytes content.now else area.old) }
-{
-    let n = content.len();
-    if n > LONGEST || at > area.len() || HEADER + n > area.len() - at {
-        return false;
-    }
-    let start = at + HEADER;
-    area[at..start].copy_from_slice(&header(name, n as u16));
-    area[start..start + n].copy_from_slice(content);
-    true
-}
-
-// Lays a live record at the place; false, and nothing done, where the record is too long or the area too short.
-pub fn write(area: &mut Vec<u8>, at: usize, name: Name, content: &[u8]) -> bool
-    ensures fits { result ≡ (nat_le (length content.now) longest && nat_le (at + (header_size + length content.now)) (vec_len area.old)) }
-    ensures after { area.new.items ≡ (if result then written area.old.items at name.bytes content.now else area.old.items) }
+// Lays a live record at the place; refused, and nothing done, where the record is too long (42) or the area too short (41).
+pub fn write(area: &mut Vec<u8>, at: usize, name: Name, content: &[u8]) -> Result<(), Refusal>
+    ensures outcome { answer result ≡ lay_number (vec_len area.old) at (length content.now) }
+    ensures after { area.new.items ≡ (if nat_eq (answer result) 0 then written area.old.items at name.bytes content.now else area.old.items) }
     ensures len { vec_len area.new ≡ vec_len area.old }
 {
-    lay(area.as_mut_slice(), at, name, content)
+    let n = content.len();
+    if n > LONGEST {
+        return Err(Refusal::RecordTooLong { unit: None });
+    }
+    if at > area.len() || HEADER + n > area.len() - at {
+        return Err(Refusal::StoreFull { unit: None });
+    }
+    let bytes = area.as_mut_slice();
+    let start = at + HEADER;
+    bytes[at..start].copy_from_slice(&header(name, n as u16));
+    bytes[start..start + n].copy_from_slice(content);
+    Ok(())
 }
 
 // Marks the record at the place dead.
@@ -114,7 +99,7 @@ pub fn bury(area: &mut Vec<u8>, at: usize)
     ensures after { area.new.items ≡ slice_set area.old.items at 0 }
     ensures len { vec_len area.new ≡ vec_len area.old }
 {
-    if at < area.len() {
-        area[at] = DEAD;
+    if let Some(mark) = area.get_mut(at) {
+        *mark = DEAD;
     }
 }

@@ -38,10 +38,9 @@ fn build_at<T: Translator, S: Store>(
     marks: &mut Bounded<Mark, 24>,
 ) -> Result<(), Halt>
     requires { length (held marks.old) < 24 }
-    ensures goes { S.Store.sound store.old → length (done_list done.old) < 24 → (more : List ℕ) → ahead (numbers (held marks.old)) (build_units (meaning T.Translator.means T.Translator.same) (stored S.Store.limit (S.Store.rows store.old)) (in_order (members project.now) (place ∷ more)) (done_list done.old) (view (S.Store.pairs store.old))) ≡ gone result (numbers (held marks.new)) (done_list done.new) (view (S.Store.pairs store.new)) (build_units (meaning T.Translator.means T.Translator.same) (stored S.Store.limit (S.Store.rows store.old)) (in_order (members project.now) more) (done_list done.new) (view (S.Store.pairs store.new))) }
+    ensures goes { length (done_list done.old) < 24 → (more : List ℕ) → ahead (numbers (held marks.old)) (build_units (meaning T.Translator.means T.Translator.same) (stored S.Store.LIMIT (S.Store.rows store.old)) (in_order (members project.now) (place ∷ more)) (done_list done.old) (view (S.Store.pairs store.old))) ≡ gone result (numbers (held marks.new)) (done_list done.new) (view (S.Store.pairs store.new)) (build_units (meaning T.Translator.means T.Translator.same) (stored S.Store.LIMIT (S.Store.rows store.old)) (in_order (members project.now) more) (done_list done.new) (view (S.Store.pairs store.new))) }
     ensures grows { length (done_list done.new) ≤ length (done_list done.old) + 1 }
     ensures marks { length (held marks.new) ≤ length (held marks.old) + 1 }
-    ensures stays { S.Store.sound store.old → S.Store.sound store.new }
     ensures rows { S.Store.rows store.new ≡ S.Store.rows store.old }
     ensures counts { (a : ℕ) → T.Translator.asked translator.old ≡ raised a (translations (numbers (held marks.old))) → T.Translator.asked translator.new ≡ raised a (translations (numbers (held marks.new))) }
 {
@@ -74,8 +73,7 @@ pub(crate) fn build_all<T: Translator, S: Store>(
     marks: &mut Bounded<Mark, 24>,
 ) -> Result<(), Halt>
     requires { length places.now ≤ 24 }
-    ensures built { S.Store.sound store.old → build_units (meaning T.Translator.means T.Translator.same) (stored S.Store.limit (S.Store.rows store.old)) (in_order (members project.now) places.now) [] (view (S.Store.pairs store.old)) ≡ record { ended = ended_of result; marks = numbers (held marks.new); done = done_list done.new; state = view (S.Store.pairs store.new) } }
-    ensures stays { S.Store.sound store.old → S.Store.sound store.new }
+    ensures built { build_units (meaning T.Translator.means T.Translator.same) (stored S.Store.LIMIT (S.Store.rows store.old)) (in_order (members project.now) places.now) [] (view (S.Store.pairs store.old)) ≡ record { ended = ended_of result; marks = numbers (held marks.new); done = done_list done.new; state = view (S.Store.pairs store.new) } }
     ensures rows { S.Store.rows store.new ≡ S.Store.rows store.old }
     ensures counts { T.Translator.asked translator.new ≡ raised (T.Translator.asked translator.old) (translations (numbers (held marks.new))) }
 {

@@ -36,8 +36,7 @@ pub fn keep<S: Store>(
     fresh: &Artifact,
     record: &mut Bounded<u8, 1896>,
 ) -> Result<(), Refusal>
-    ensures says { S.Store.sound store.old → PutArt S.Store.limit (S.Store.rows store.old) (view (S.Store.pairs store.old)) (view (S.Store.pairs store.new)) name.bytes (art fresh.now) (answer result) }
-    ensures stays { S.Store.sound store.old → S.Store.sound store.new }
+    ensures says { PutArt S.Store.LIMIT (S.Store.rows store.old) (view (S.Store.pairs store.old)) (view (S.Store.pairs store.new)) name.bytes (art fresh.now) (answer result) }
     ensures rows { S.Store.rows store.new ≡ S.Store.rows store.old }
 {
     fresh.write(record);

@@ -63,10 +63,9 @@ pub fn is_current<T: Translator>(translator: &T, kept: &Artifact, fresh: &Artifa
 
 // The length of the record under a name, which is now at the buffer's start. One that is longer than the buffer is no artifact, and counts as none.
 pub(crate) fn get<S: Store>(store: &mut S, name: Name, buffer: &mut [u8; 1896]) -> Option<usize>
-    ensures holds { S.Store.sound store.old → in_buffer result buffer.new ≡ artifact_in (lookup (S.Store.pairs store.old) name.bytes) }
+    ensures holds { in_buffer result buffer.new ≡ artifact_in (lookup (S.Store.pairs store.old) name.bytes) }
     ensures within { InRoom result }
-    ensures pairs { S.Store.sound store.old → S.Store.pairs store.new ≡ S.Store.pairs store.old }
-    ensures stays { S.Store.sound store.old → S.Store.sound store.new }
+    ensures pairs { S.Store.pairs store.new ≡ S.Store.pairs store.old }
     ensures rows { S.Store.rows store.new ≡ S.Store.rows store.old }
 {
     match store.get(name, buffer) {
@@ -103,9 +102,8 @@ pub fn look_up<S: Store>(
     buffer: &mut [u8; 1896],
     kept: &mut Artifact,
 ) -> bool
-    ensures finds { S.Store.sound store.old → found result (art kept.new) ≡ artifact_in (lookup (S.Store.pairs store.old) name.bytes) }
-    ensures pairs { S.Store.sound store.old → S.Store.pairs store.new ≡ S.Store.pairs store.old }
-    ensures stays { S.Store.sound store.old → S.Store.sound store.new }
+    ensures finds { found result (art kept.new) ≡ artifact_in (lookup (S.Store.pairs store.old) name.bytes) }
+    ensures pairs { S.Store.pairs store.new ≡ S.Store.pairs store.old }
     ensures rows { S.Store.rows store.new ≡ S.Store.rows store.old }
 {
     let Some(length) = get(store, name, buffer) else {

@@ -36,10 +36,9 @@ pub(crate) fn has_current<T: Translator, S: Store>(
     name: Name,
     desk: &mut Desk,
 ) -> bool
-    ensures finds { S.Store.sound store.old → found result (art desk.new.kept) ≡ current_to T.Translator.same (art desk.old.fresh) (artifact_in (lookup (S.Store.pairs store.old) name.bytes)) }
+    ensures finds { found result (art desk.new.kept) ≡ current_to T.Translator.same (art desk.old.fresh) (artifact_in (lookup (S.Store.pairs store.old) name.bytes)) }
     ensures fresh { art desk.new.fresh ≡ art desk.old.fresh }
-    ensures pairs { S.Store.sound store.old → S.Store.pairs store.new ≡ S.Store.pairs store.old }
-    ensures stays { S.Store.sound store.old → S.Store.sound store.new }
+    ensures pairs { S.Store.pairs store.new ≡ S.Store.pairs store.old }
     ensures rows { S.Store.rows store.new ≡ S.Store.rows store.old }
 {
     if !step::look_up(store, name, &mut desk.buffer, &mut desk.kept) {
@@ -55,8 +54,7 @@ pub(crate) fn make<T: Translator, S: Store>(
     name: Name,
     desk: &mut Desk,
 ) -> Result<(), Stop>
-    ensures says { S.Store.sound store.old → MadeSays T.Translator.means S.Store.limit (S.Store.rows store.old) name.bytes (art desk.old.fresh) (art desk.new.fresh) (view (S.Store.pairs store.old)) (view (S.Store.pairs store.new)) result }
-    ensures stays { S.Store.sound store.old → S.Store.sound store.new }
+    ensures says { MadeSays T.Translator.means S.Store.LIMIT (S.Store.rows store.old) name.bytes (art desk.old.fresh) (art desk.new.fresh) (view (S.Store.pairs store.old)) (view (S.Store.pairs store.new)) result }
     ensures rows { S.Store.rows store.new ≡ S.Store.rows store.old }
     ensures counts { T.Translator.asked translator.new ≡ (T.Translator.asked translator.old + 1) % 2 ^ 64 }
 {
@@ -78,9 +76,8 @@ fn make_unit<T: Translator, S: Store>(
     desk: &mut Desk,
     done: &mut Done,
 ) -> Result<Mark, Stop>
-    ensures built { S.Store.sound store.old → length (done_list done.old) < 24 → (u : Member) → u.name ≡ name → art desk.old.fresh ≡ art_of u (interfaces (done_list done.old) u) no_parts → current_in (meaning T.Translator.means T.Translator.same) (stored S.Store.limit (S.Store.rows store.old)) u (done_list done.old) (view (S.Store.pairs store.old)) ≡ None → UnitBuilt (meaning T.Translator.means T.Translator.same) (stored S.Store.limit (S.Store.rows store.old)) u (done_list done.old) (done_list done.new) (view (S.Store.pairs store.old)) (view (S.Store.pairs store.new)) result }
+    ensures built { length (done_list done.old) < 24 → (u : Member) → u.name ≡ name → art desk.old.fresh ≡ art_of u (interfaces (done_list done.old) u) no_parts → current_in (meaning T.Translator.means T.Translator.same) (stored S.Store.LIMIT (S.Store.rows store.old)) u (done_list done.old) (view (S.Store.pairs store.old)) ≡ None → UnitBuilt (meaning T.Translator.means T.Translator.same) (stored S.Store.LIMIT (S.Store.rows store.old)) u (done_list done.old) (done_list done.new) (view (S.Store.pairs store.old)) (view (S.Store.pairs store.new)) result }
     ensures grows { length (done_list done.new) ≤ length (done_list done.old) + 1 }
-    ensures stays { S.Store.sound store.old → S.Store.sound store.new }
     ensures rows { S.Store.rows store.new ≡ S.Store.rows store.old }
     ensures counts { T.Translator.asked translator.new ≡ raised (T.Translator.asked translator.old) (translations (mark_of result ∷ [])) }
 {
@@ -100,9 +97,8 @@ pub(crate) fn build_unit<T: Translator, S: Store>(
     desk: &mut Desk,
     done: &mut Done,
 ) -> Result<Mark, Stop>
-    ensures built { S.Store.sound store.old → length (done_list done.old) < 24 → UnitBuilt (meaning T.Translator.means T.Translator.same) (stored S.Store.limit (S.Store.rows store.old)) (member unit.now) (done_list done.old) (done_list done.new) (view (S.Store.pairs store.old)) (view (S.Store.pairs store.new)) result }
+    ensures built { length (done_list done.old) < 24 → UnitBuilt (meaning T.Translator.means T.Translator.same) (stored S.Store.LIMIT (S.Store.rows store.old)) (member unit.now) (done_list done.old) (done_list done.new) (view (S.Store.pairs store.old)) (view (S.Store.pairs store.new)) result }
     ensures grows { length (done_list done.new) ≤ length (done_list done.old) + 1 }
-    ensures stays { S.Store.sound store.old → S.Store.sound store.new }
     ensures rows { S.Store.rows store.new ≡ S.Store.rows store.old }
     ensures counts { T.Translator.asked translator.new ≡ raised (T.Translator.asked translator.old) (translations (mark_of result ∷ [])) }
 {

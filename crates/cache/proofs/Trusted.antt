@@ -146,6 +146,14 @@ pub told_none : (o : Option (List ℕ)) → None ≡ option_map length o → o �
 told_none None h = refl
 told_none (Some v) h = let z : ◌≡◌ {A = ℕ} 0 1 = cc in absurd (omega arith)
 
+-- after a get that was asked of the copies
+pub recall_true : (room : ℕ) (q : List ℕ) (xs ps : List Pair) → TrueCopies xs ps → TrueCopies (after_get (lookup xs q) room q xs) ps
+recall_true room q xs ps t = by_found (lookup xs q) refl
+  where
+    by_found : (o : Option (List ℕ)) → lookup xs q ≡ o → TrueCopies (after_get o room q xs) ps
+    by_found None e = t
+    by_found (Some v) e = get_true (Some v) room q xs ps ps t refl (t.1 q v e)
+
 -- a get that a copy answers
 pub hit_says : (xs ps : List Pair) (q buffer buffer' : List ℕ) (r : Result (Option ℕ) Refusal) → Agrees xs ps → is_some (lookup xs q) ≡ true → answer r ≡ get_number (lookup xs q) (length buffer) → IfOk r (λ n. n ≡ option_map length (lookup xs q)) → buffer' ≡ get_buffer (lookup xs q) buffer → GetSays ps ps q buffer buffer' r
 hit_says xs ps q buffer buffer' r a h o t f =

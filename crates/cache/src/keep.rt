@@ -3,7 +3,7 @@ ghost use Rattle.std.specs.Prelude.{◌≡◌, ℕ, Bool, true, List, length};
 ghost use Rattle.names.specs.Refusals.{answer};
 ghost use Rattle.store.specs.Pairs.{lookup, without};
 ghost use Rattle.store.specs.Says.{PutSays, GetSays, DropSays, Within};
-ghost use Rattle.cache.specs.Recent.{after_put, after_get, TrueCopies};
+ghost use Rattle.cache.specs.Recent.{after_put, after_get};
 ghost use Rattle.cache.specs.Kept.{kept};
 
 use crate::over::Cache;
@@ -13,27 +13,20 @@ use store::Store;
 impl<S: Store> Store for Cache<S> {
     const LIMIT: usize = S::LIMIT;
 
-    ghost limit = { S.Store.limit };
+    ghost LIMIT = { S.Store.LIMIT };
 
     ghost rows = { λ c. S.Store.rows c.below };
 
     ghost pairs = { λ c. S.Store.pairs c.below };
 
-    ghost sound = { λ c. S.Store.sound c.below × TrueCopies (kept c.copies) (S.Store.pairs c.below) };
-
-    ghost apart = { λ c t. S.Store.apart c.below t.0 };
-
-    fn most() -> usize {
-        S::most()
-    }
+    ghost apart = { λ c. S.Store.apart c.below };
 
     fn capacity(&self) -> usize {
         self.below.capacity()
     }
 
     fn put(&mut self, name: Name, content: &[u8]) -> Result<(), Refusal>
-        ensures says { S.Store.sound self.old.below × TrueCopies (kept self.old.copies) (S.Store.pairs self.old.below) → PutSays S.Store.limit (S.Store.rows self.old.below) (S.Store.pairs self.old.below) (S.Store.pairs self.new.below) name.bytes content.now (answer result) }
-        ensures stays { S.Store.sound self.old.below × TrueCopies (kept self.old.copies) (S.Store.pairs self.old.below) → S.Store.sound self.new.below × TrueCopies (kept self.new.copies) (S.Store.pairs self.new.below) }
+        ensures says { PutSays S.Store.LIMIT (S.Store.rows self.old.below) (S.Store.pairs self.old.below) (S.Store.pairs self.new.below) name.bytes content.now (answer result) }
         ensures rows { S.Store.rows self.new.below ≡ S.Store.rows self.old.below }
         ensures held { kept self.new.copies ≡ after_put (answer result) name.bytes content.now (kept self.old.copies) }
     {
@@ -43,11 +36,10 @@ impl<S: Store> Store for Cache<S> {
     }
 
     fn get(&mut self, name: Name, buffer: &mut [u8]) -> Result<Option<usize>, Refusal>
-        ensures says { S.Store.sound self.old.below × TrueCopies (kept self.old.copies) (S.Store.pairs self.old.below) → GetSays (S.Store.pairs self.old.below) (S.Store.pairs self.new.below) name.bytes buffer.old buffer.new result }
+        ensures says { GetSays (S.Store.pairs self.old.below) (S.Store.pairs self.new.below) name.bytes buffer.old buffer.new result }
         ensures within { Within result (length buffer.old) }
-        ensures stays { S.Store.sound self.old.below × TrueCopies (kept self.old.copies) (S.Store.pairs self.old.below) → S.Store.sound self.new.below × TrueCopies (kept self.new.copies) (S.Store.pairs self.new.below) }
         ensures rows { S.Store.rows self.new.below ≡ S.Store.rows self.old.below }
-        ensures held { S.Store.sound self.old.below × TrueCopies (kept self.old.copies) (S.Store.pairs self.old.below) → kept self.new.copies ≡ after_get (lookup (S.Store.pairs self.old.below) name.bytes) (length buffer.old) name.bytes (kept self.old.copies) }
+        ensures held { kept self.new.copies ≡ after_get (lookup (S.Store.pairs self.old.below) name.bytes) (length buffer.old) name.bytes (kept self.old.copies) }
     {
         match self.copies.recall(name, buffer)? {
             Some(n) => Ok(Some(n)),
@@ -56,8 +48,7 @@ impl<S: Store> Store for Cache<S> {
     }
 
     fn drop(&mut self, name: Name) -> bool
-        ensures says { S.Store.sound self.old.below × TrueCopies (kept self.old.copies) (S.Store.pairs self.old.below) → DropSays (S.Store.pairs self.old.below) (S.Store.pairs self.new.below) name.bytes result }
-        ensures stays { S.Store.sound self.old.below × TrueCopies (kept self.old.copies) (S.Store.pairs self.old.below) → S.Store.sound self.new.below × TrueCopies (kept self.new.copies) (S.Store.pairs self.new.below) }
+        ensures says { DropSays (S.Store.pairs self.old.below) (S.Store.pairs self.new.below) name.bytes result }
         ensures rows { S.Store.rows self.new.below ≡ S.Store.rows self.old.below }
         ensures held { kept self.new.copies ≡ without name.bytes (kept self.old.copies) }
     {

@@ -1,9 +1,9 @@
 // The cache over any store.
 ghost use Rattle.std.specs.Prelude.{◌≡◌, ℕ, List, [], length, IfOk};
 ghost use Rattle.names.specs.Refusals.{answer};
-ghost use Rattle.store.specs.Pairs.{lookup, without};
-ghost use Rattle.store.specs.Says.{PutSays, GetSays, DropSays, Within};
-ghost use Rattle.cache.specs.Recent.{after_put, after_get, TrueCopies};
+ghost use Rattle.store.specs.Pairs.{lookup};
+ghost use Rattle.store.specs.Says.{GetSays, Within};
+ghost use Rattle.cache.specs.Recent.{after_get, TrueCopies};
 ghost use Rattle.cache.specs.Kept.{kept};
 
 use crate::copies::Copies;
@@ -12,9 +12,10 @@ use std::alloc::{AllocError, Global};
 use store::Store;
 
 #[derive(Drop)]
-pub struct Cache<S> {
+pub struct Cache<S: Store> {
     pub(crate) below: S,
     pub(crate) copies: Copies,
+    ghost true_copies: { TrueCopies (kept copies) (S.Store.pairs below) },
 }
 
 impl<S: Store> Cache<S> {
@@ -23,7 +24,6 @@ impl<S: Store> Cache<S> {
     where
         S: Drop,
         ensures opens { IfOk result (λ c. (c.below ≡ below) × (kept c.copies ≡ [])) }
-        ensures sound { IfOk result (λ c. S.Store.sound below → S.Store.sound c.below × TrueCopies (kept c.copies) (S.Store.pairs c.below)) }
     {
         let copies = Copies::open(heap)?;
         Ok(Cache { below, copies })
@@ -46,11 +46,10 @@ impl<S: Store> Cache<S> {
 
     // Gets a record that has no copy from below, and takes a copy of it in.
     pub(crate) fn fetch(&mut self, name: Name, buffer: &mut [u8]) -> Result<Option<usize>, Refusal>
-        ensures says { S.Store.sound self.old.below → GetSays (S.Store.pairs self.old.below) (S.Store.pairs self.new.below) name.bytes buffer.old buffer.new result }
+        ensures says { GetSays (S.Store.pairs self.old.below) (S.Store.pairs self.new.below) name.bytes buffer.old buffer.new result }
         ensures within { Within result (length buffer.old) }
-        ensures stays { S.Store.sound self.old.below → S.Store.sound self.new.below }
         ensures rows { S.Store.rows self.new.below ≡ S.Store.rows self.old.below }
-        ensures latest { S.Store.sound self.old.below → kept self.new.copies ≡ after_get (lookup (S.Store.pairs self.old.below) name.bytes) (length buffer.old) name.bytes (kept self.old.copies) }
+        ensures latest { kept self.new.copies ≡ after_get (lookup (S.Store.pairs self.old.below) name.bytes) (length buffer.old) name.bytes (kept self.old.copies) }
     {
         let Some(n) = self.below.get(name, buffer)? else {
             return Ok(None);

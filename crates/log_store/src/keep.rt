@@ -15,19 +15,13 @@ use store::Store;
 impl Store for LogStore {
     const LIMIT: usize = LONGEST;
 
-    ghost limit = { longest };
+    ghost LIMIT = { longest };
 
     ghost rows = { λ s. s.rows };
 
     ghost pairs = { λ s. pairs_of s };
 
-    ghost sound = { λ _. Unit {0} };
-
-    ghost apart = { λ s _. s.apart };
-
-    fn most() -> usize {
-        LONGEST
-    }
+    ghost apart = { λ s. s.apart };
 
     fn capacity(&self) -> usize {
         self.rows

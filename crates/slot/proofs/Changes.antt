@@ -1,14 +1,14 @@
 -- What a write into one slot leaves of the pairs.
-use Rattle.std.proofs.Common.{◌≡◌, ℕ, zero, suc, ◌+◌, ◌-◌, ◌*◌, ◌<◌, ◌≤◌, Bool, true, false, cond, ◌&&◌, ◌||◌, ltb, leb, ◌≢◌, List, [], ◌∷◌, ◌++◌, length, get_or, take, drop, set, is_some, Some, sym, refl, ap, ◌∙◌, subst, inl, inr, ⊎_elim, add-zero, arith, length-append}
+use Rattle.std.proofs.Common.{◌≡◌, ℕ, zero, suc, ◌+◌, ◌-◌, ◌*◌, ◌<◌, ◌≤◌, true, false, cond, ◌||◌, eqb, ltb, leb, ◌≢◌, List, [], ◌∷◌, ◌++◌, length, get_or, take, drop, set, is_some, Some, sym, refl, ap, ◌∙◌, subst, inl, inr, ⊎_elim, add-zero, arith, length-append}
 use Rattle.std.specs.Str.{bytes_eq}
-use Rattle.std.proofs.lemmas.Bool.{cases_lt, cases_eq, and_parts, or_left, or_right, lt-ltb, and_from, le-leb, le-ltb, cond-true}
+use Rattle.std.proofs.lemmas.Bool.{cases_lt, cases_eq, and_parts, or_left, or_right, lt-ltb, le-leb, le-ltb}
 use Rattle.std.proofs.lemmas.List.{get_or-set_same, get_or-set_other, set_past, get_or_past, take-take, drop-drop, drop_at, length-take-le, take-set-le, drop-set-lt, take_at, take-append-drop}
 use Rattle.std.proofs.lemmas.Slice.{between_is}
 use Rattle.std.proofs.lemmas.List.Edits.{get_or-between, paste_all, drop-paste}
-use Rattle.store.specs.Says.{put_number}
+use Rattle.store.specs.Says.{PutSays, put_pairs}
 use Rattle.store.specs.Pairs.{Pair, pair, lookup, has, without, once, SamePairs}
 use Rattle.store.proofs.Pairs.{by_test, same_is, put_over, put-new, once_out, without_at, lookup-at}
-use Rattle.area.specs.Layout.{rows_of, slot_size, laid, live, key, content, holds, held, written}
+use Rattle.area.specs.Layout.{longest, rows_of, slot_size, laid, lay_number, live, key, content, holds, held, written}
 use Rattle.area.proofs.Records.{held-laid, length-laid}
 use Rattle.slot.specs.Slots.{slot, gather, slot_pairs, cleared, SlotOf, SlotFor}
 use Rattle.slot.proofs.Gathered.{gather-at, gather-same, length-gather}
@@ -182,12 +182,15 @@ slot-within n xs q i (inl (h, holds-it, none)) = h
 slot-within n xs q i (inr (h, dead, none)) = h
 
 -- a put that found a slot
-pub put-done : (n len : ℕ) (xs ys q bs : List ℕ) (i : ℕ) (r : Bool) → length q ≡ 8 → length bs ≤ 1896 → n ≡ rows_of len → len ≡ length xs → r ≡ (leb (length bs) 1896 && leb (i * 1907 + (11 + length bs)) len) → ys ≡ cond r (written xs (i * 1907) q bs) xs → SlotFor n xs q i → once (slot_pairs n xs) ≡ true → Puts (slot_pairs n xs) (slot_pairs n ys) q bs × (0 ≡ put_number 1896 n (has (slot_pairs n xs) q) (length (slot_pairs n xs)) (length bs))
-put-done n len xs ys q bs i r eight short rows long fits after s u =
+pub put-done : (n len : ℕ) (xs ys q bs : List ℕ) (i number : ℕ) → length q ≡ 8 → length bs ≤ 1896 → n ≡ rows_of len → len ≡ length xs → number ≡ lay_number len (i * slot_size) (length bs) → ys ≡ cond (eqb number 0) (written xs (i * slot_size) q bs) xs → SlotFor n xs q i → once (slot_pairs n xs) ≡ true → PutSays longest n (slot_pairs n xs) (slot_pairs n ys) q bs number × (once (slot_pairs n ys) ≡ true)
+put-done n len xs ys q bs i number eight short rows long fits after s u =
     let h : i < n = slot-within n xs q i s in
     let room : n * slot_size ≤ length xs = omega arith in
-    let yes : r ≡ true = fits ∙ and_from (leb (length bs) 1896) (leb (i * 1907 + (11 + length bs)) len) (le-leb (length bs) 1896 short) (le-leb (i * 1907 + (11 + length bs)) len (omega arith)) in
-    let is : ys ≡ written xs (i * 1907) q bs = after ∙ cond-true r (written xs (i * 1907) q bs) xs yes in
-    let all = has_room n xs q i s in
     let small : ltb 1896 (length bs) ≡ false = le-ltb 1896 (length bs) short in
-    (subst (λ (x : List ℕ). Puts (slot_pairs n xs) (slot_pairs n x) q bs) (sym is) (put_in n xs q bs i eight short room s u), simp (small, all))
+    let inside : leb (i * slot_size + (11 + length bs)) len ≡ true = le-leb (i * slot_size + (11 + length bs)) len (omega arith) in
+    let done : number ≡ 0 = fits ∙ simp (small, inside) in
+    let is : ys ≡ written xs (i * slot_size) q bs = after ∙ ap (λ (m : ℕ). cond (eqb m 0) (written xs (i * slot_size) q bs) xs) done in
+    let all = has_room n xs q i s in
+    let puts : Puts (slot_pairs n xs) (slot_pairs n ys) q bs = subst (λ (x : List ℕ). Puts (slot_pairs n xs) (slot_pairs n x) q bs) (sym is) (put_in n xs q bs i eight short room s u) in
+    let pairs : SamePairs (slot_pairs n ys) (put_pairs number (slot_pairs n xs) q bs) = subst (λ (m : ℕ). SamePairs (slot_pairs n ys) (put_pairs m (slot_pairs n xs) q bs)) (sym done) puts.0 in
+    (record { outcome = done ∙ simp (small, all); pairs = pairs }, puts.1)

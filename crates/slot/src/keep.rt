@@ -1,9 +1,8 @@
 // The slot store keeps the contract of every store.
 ghost use Rattle.std.specs.Prelude.{◌≡◌};
 ghost use Rattle.area.specs.Layout.{longest};
-ghost use Rattle.slot.specs.Slots.{slot_pairs};
+ghost use Rattle.slot.specs.Kept.{pairs_of};
 
-use crate::search::{find, place};
 use crate::slots::SlotStore;
 use area::layout::{LONGEST, SLOT};
 use area::record_at::{bury, read, write};
@@ -13,19 +12,13 @@ use store::Store;
 impl Store for SlotStore {
     const LIMIT: usize = LONGEST;
 
-    ghost limit = { longest };
+    ghost LIMIT = { longest };
 
     ghost rows = { λ s. s.rows };
 
-    ghost pairs = { λ s. slot_pairs s.rows s.area.items };
+    ghost pairs = { pairs_of };
 
-    ghost sound = { λ _. Unit {0} };
-
-    ghost apart = { λ s _. s.apart };
-
-    fn most() -> usize {
-        LONGEST
-    }
+    ghost apart = { λ s. s.apart };
 
     fn capacity(&self) -> usize {
         self.rows
@@ -35,15 +28,14 @@ impl Store for SlotStore {
         if content.len() > LONGEST {
             return Err(Refusal::RecordTooLong { unit: None });
         }
-        let Some(i) = place(self.area.as_slice(), self.rows, name) else {
+        let Some(i) = self.place(name) else {
             return Err(Refusal::StoreFull { unit: None });
         };
-        let _ = write(&mut self.area, i * SLOT, name, content);
-        Ok(())
+        write(&mut self.area, i * SLOT, name, content)
     }
 
     fn get(&mut self, name: Name, buffer: &mut [u8]) -> Result<Option<usize>, Refusal> {
-        let Some(i) = find(self.area.as_slice(), self.rows, name) else {
+        let Some(i) = self.find(name) else {
             return Ok(None);
         };
         let at = i * SLOT;
@@ -52,12 +44,10 @@ impl Store for SlotStore {
     }
 
     fn drop(&mut self, name: Name) -> bool {
-        match find(self.area.as_slice(), self.rows, name) {
-            Some(i) => {
-                bury(&mut self.area, i * SLOT);
-                true
-            }
-            None => false,
-        }
+        let Some(i) = self.find(name) else {
+            return false;
+        };
+        bury(&mut self.area, i * SLOT);
+        true
     }
 }

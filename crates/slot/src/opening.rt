@@ -1,23 +1,11 @@
 // Opening a slot store over an area, and giving the area back.
-ghost use Rattle.std.specs.Prelude.{◌≡◌, ◌*◌, ◌≤◌, [], length, vec_len};
-ghost use Rattle.area.specs.Layout.{slot_size, rows_of};
+ghost use Rattle.std.specs.Prelude.{◌≡◌, [], vec_len};
+ghost use Rattle.area.specs.Layout.{rows_of};
 ghost use Rattle.slot.specs.Slots.{slot_pairs, cleared};
 
 use crate::slots::SlotStore;
 use area::layout::SLOT;
 use area::record_at::{bury, rows};
-
-// Marks the first slots of the area dead.
-fn clear(area: &mut Vec<u8>, rows: usize)
-    requires { rows * slot_size ≤ vec_len area.old }
-    ensures marks { area.new.items ≡ cleared rows area.old.items }
-    ensures len { vec_len area.new ≡ vec_len area.old }
-    ensures none { slot_pairs rows area.new.items ≡ [] }
-{
-    for i in 0..rows {
-        bury(area, i * SLOT);
-    }
-}
 
 impl SlotStore {
     // A store with no pair in the area, whatever bytes the area held.
@@ -27,7 +15,10 @@ impl SlotStore {
         ensures none { slot_pairs result.rows result.area.items ≡ [] }
     {
         let rows = rows(area.len());
-        clear(&mut area, rows);
+        // kept as a loop over places: of what `chunks_exact_mut` wrote a proof knows the length alone
+        for i in 0..rows {
+            bury(&mut area, i * SLOT);
+        }
         SlotStore { area, rows }
     }
 

@@ -1,6 +1,6 @@
-ghost use Rattle.std.specs.Prelude.{◌≡◌, ◌*◌, ◌≤◌, true, vec_len};
+ghost use Rattle.std.specs.Prelude.{◌≡◌, true, vec_len};
 ghost use Rattle.store.specs.Pairs.{once};
-ghost use Rattle.area.specs.Layout.{slot_size, rows_of};
+ghost use Rattle.area.specs.Layout.{rows_of};
 ghost use Rattle.slot.specs.Slots.{slot_pairs};
 
 // An area of the caller's with its number of slots; no name lies in two of them.

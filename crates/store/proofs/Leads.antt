@@ -1,8 +1,10 @@
 -- What calls lead to, one call more.
-use Rattle.std.proofs.Common.{◌≡◌, ℕ, ◌+◌, ◌-◌, ◌<◌, Bool, true, false, cond, eqb, List, [], ◌∷◌, ◌++◌, length, get_or, take, is_some, Some, None, sym, refl, ap, ◌∙◌, subst, arith}
+use Rattle.std.proofs.Common.{◌≡◌, ℕ, ◌+◌, ◌-◌, ◌<◌, Bool, true, false, cond, eqb, List, [], ◌∷◌, ◌++◌, length, get_or, take, is_some, Some, None, vec_items, sym, refl, ap, ◌∙◌, subst, arith}
 use Rattle.std.proofs.lemmas.List.{take_more}
 use Rattle.std.specs.Str.{bytes_eq}
+use Rattle.names.specs.declared.name.Name.{Name}
 use Rattle.store.specs.declared.call.Call.{Call}
+use Rattle.store.specs.declared.call.Call.TheVariants.{Put, Drop}
 use Rattle.store.specs.Pairs.{Pair, pair, lookup, has, without, once, SamePairs}
 use Rattle.store.specs.Says.{put_number, put_pairs, PutSays, DropSays}
 use Rattle.store.specs.Runs.{standing, names_standing, put_due, told, told_all, Stands}
@@ -52,6 +54,16 @@ module _ (past newer : List Call) (q bs : List ℕ) (before after : List Pair) (
             (λ e. let f : is_some (standing past q) ≡ true = sym held ∙ e in let l' : length (without q before) + 1 ≡ length before = simp e at l in let m : names_standing newer ≡ names_standing past - 1 = simp f at less in omega arith)
             (λ e. let f : is_some (standing past q) ≡ false = sym held ∙ e in let l' : length (without q before) + 0 ≡ length before = simp e at l in let m : names_standing newer ≡ names_standing past - 0 = simp f at less in omega arith);
       }
+
+-- a call of a put, and of a drop
+module _ (limit rows : ℕ) (past : List Call) (call : Call) (before after : List Pair) (stands : Stands past before) where
+  pub put_told : (name : Name) (content : _) → call ≡ Put name content → PutSays limit rows before after name.bytes (vec_items content) 0 → Stands (told limit rows past call) after
+  put_told name content is says =
+      subst (λ (x : Call). Stands (told limit rows past x) after) (sym is) (put_leads past (Put name content ∷ past) name.bytes (vec_items content) before after stands limit rows 0 says (λ k. refl) refl)
+
+  pub drop_told : (name : Name) (r : Bool) → call ≡ Drop name → DropSays before after name.bytes r → once before ≡ true → Stands (told limit rows past call) after
+  drop_told name r is says apart =
+      subst (λ (x : Call). Stands (told limit rows past x) after) (sym is) (drop_leads past (Drop name ∷ past) name.bytes name.bytes before after stands r says apart (λ k. refl) refl)
 
 -- one call more at the end
 pub told_more : (limit rows : ℕ) (past cs : List Call) (c : Call) → told_all limit rows past (cs ++ c ∷ []) ≡ told limit rows (told_all limit rows past cs) c

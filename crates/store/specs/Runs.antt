@@ -1,10 +1,13 @@
 -- What a list of calls from opening leads to, told by the calls alone.
-use Rattle.std.specs.Prelude.{◌≡◌, ℕ, ◌+◌, ◌-◌, cond, List, [], ◌∷◌, length, is_some, Some, None, vec_items, Option, ◌==◌, nat_le}
+use Rattle.std.specs.Prelude.{◌≡◌, ℕ, ◌+◌, ◌-◌, cond, List, [], ◌∷◌, length, is_some, Some, None, Ok, Err, vec_items, Option, Result, ◌==◌, nat_le}
+use Rattle.std.specs.Result.{result_map_both}
 use Rattle.std.specs.Str.{bytes_eq}
+use Rattle.names.specs.declared.refusal.Refusal.{Refusal}
+use Rattle.names.specs.Refusals.{number}
 use Rattle.store.specs.declared.call.Call.{Call}
 use Rattle.store.specs.declared.call.Call.TheVariants.{Put, Get, Drop}
 use Rattle.store.specs.declared.call.Answer.{Answer}
-use Rattle.store.specs.declared.call.Answer.TheVariants.{Done, Nothing, Found, Refused}
+use Rattle.store.specs.declared.call.Answer.TheVariants.{Done, Nothing, Found}
 use Rattle.store.specs.Pairs.{Pair, lookup}
 use Rattle.store.specs.Says.{put_number, get_buffer}
 
@@ -38,19 +41,19 @@ told_all limit rows past [] = past
 told_all limit rows past (c ∷ cs) = told_all limit rows (told limit rows past c) cs
 
 -- done, or refused with a number
-abbrev pub done : ℕ → Answer
-done n = cond (n == 0) Done (Refused n)
+abbrev pub done : ℕ → Result Answer ℕ
+done n = cond (n == 0) (Ok Done) (Err n)
 
 -- the answer to a get of a record
-abbrev pub found : Option (List ℕ) → ℕ → Answer
-found None room = Nothing
-found (Some bs) room = cond (nat_le (length bs) room) (Found (length bs)) (Refused 43)
+abbrev pub found : Option (List ℕ) → ℕ → Result Answer ℕ
+found None room = Ok Nothing
+found (Some bs) room = cond (nat_le (length bs) room) (Ok (Found (length bs))) (Err 43)
 
--- the answer due to a call after these calls
-abbrev pub due : ℕ → ℕ → List Call → Call → ℕ → Answer
+-- the answer due to a call after these calls, with a refusal's number in the refusal's place
+abbrev pub due : ℕ → ℕ → List Call → Call → ℕ → Result Answer ℕ
 due limit rows past (Put n v) room = done (put_due limit rows past n.bytes (length (vec_items v)))
 due limit rows past (Get n) room = found (standing past n.bytes) room
-due limit rows past (Drop n) room = cond (is_some (standing past n.bytes)) Done Nothing
+due limit rows past (Drop n) room = Ok (cond (is_some (standing past n.bytes)) Done Nothing)
 
 -- the record that a call asks for
 abbrev pub asked : List Call → Call → Option (List ℕ)
@@ -59,8 +62,8 @@ asked past (Get n) = standing past n.bytes
 asked past (Drop n) = None
 
 -- a call answers what is due after these calls, and a get writes the record last put and not dropped since
-pub record Answers (limit rows : ℕ) (past : List Call) (call : Call) (buffer buffer' : List ℕ) (r : Answer) : Type 0 where
-  pub answer : r ≡ due limit rows past call (length buffer)
+pub record Answers (limit rows : ℕ) (past : List Call) (call : Call) (buffer buffer' : List ℕ) (r : Result Answer Refusal) : Type 0 where
+  pub answer : result_map_both (λ a. a) number r ≡ due limit rows past call (length buffer)
   pub filled : buffer' ≡ get_buffer (asked past call) buffer
 
 -- the pairs are those that these calls left

@@ -1,4 +1,4 @@
-// A call of a store as a value, and its answer.
+// A call of a store as a value, and what it answers where it is not refused.
 use names::Name;
 
 #[derive(Drop)]
@@ -8,7 +8,7 @@ pub enum Call {
     Drop { name: Name },
 }
 
-#[derive(Clone, Copy)]
+#[derive(Clone, Copy, Debug, PartialEq, Eq)]
 pub enum Answer {
     // carried out
     Done,
@@ -16,6 +16,4 @@ pub enum Answer {
     Nothing,
     // the record's length; its bytes are in the buffer
     Found(usize),
-    // refused, with this number
-    Refused(u8),
 }

@@ -10,8 +10,7 @@ pub trait Store {
     // The longest record that a store of this kind takes.
     const LIMIT: usize;
 
-    // the record limit, for clauses
-    ghost limit: { ℕ };
+    ghost LIMIT: { ℕ };
 
     // how many pairs the store takes, fixed when it is opened
     ghost rows: { Self → ℕ };
@@ -19,35 +18,26 @@ pub trait Store {
     // the pairs that it holds
     ghost pairs: { Self → List Pair };
 
-    // what holds of a store from its opening on
-    ghost sound: { Self → Type 0 };
-
-    // The record limit.
-    fn most() -> usize
-        ensures { result ≡ limit };
-
     // The number of rows.
     fn capacity(&self) -> usize
         ensures { result ≡ rows self.now };
 
     // The name has this record from now on, unless the record is too long (42) or there is no row for a new name (41).
     fn put(&mut self, name: Name, content: &[u8]) -> Result<(), Refusal>
-        ensures says { sound self.old → PutSays limit (rows self.old) (pairs self.old) (pairs self.new) name.bytes content.now (answer result) }
-        ensures stays { sound self.old → sound self.new }
+        ensures says { PutSays LIMIT (rows self.old) (pairs self.old) (pairs self.new) name.bytes content.now (answer result) }
         ensures rows { rows self.new ≡ rows self.old };
 
     // The record of the name at the buffer's start, and its length; none if there is none; refused (43) if the buffer is shorter.
     fn get(&mut self, name: Name, buffer: &mut [u8]) -> Result<Option<usize>, Refusal>
-        ensures says { sound self.old → GetSays (pairs self.old) (pairs self.new) name.bytes buffer.old buffer.new result }
+        ensures says { GetSays (pairs self.old) (pairs self.new) name.bytes buffer.old buffer.new result }
         ensures within { Within result (length buffer.old) }
-        ensures stays { sound self.old → sound self.new }
         ensures rows { rows self.new ≡ rows self.old };
 
     // The name has no record from now on; says whether it had one.
     fn drop(&mut self, name: Name) -> bool
-        ensures says { sound self.old → DropSays (pairs self.old) (pairs self.new) name.bytes result }
-        ensures stays { sound self.old → sound self.new }
+        ensures says { DropSays (pairs self.old) (pairs self.new) name.bytes result }
         ensures rows { rows self.new ≡ rows self.old };
 
-    ghost apart: { (s : Self) → sound s → once (pairs s) ≡ true };
+    // no name stands twice
+    ghost apart: { (s : Self) → once (pairs s) ≡ true };
 }

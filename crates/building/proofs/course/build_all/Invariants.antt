@@ -11,8 +11,7 @@ use Rattle.building.proofs.course.build_all.Given as goal
 
 abbrev pub invariant-loop-place : goal.invariant-loop-place
 invariant-loop-place g l =
-    (g.S.Store.sound l.initial.store → OnCourse (meaning g.T.Translator.means g.T.Translator.same) (stored g.S.Store.limit (g.S.Store.rows l.initial.store)) (members l.project) l.places (drop l.place-index l.places) (view (g.S.Store.pairs l.initial.store)) (numbers (held l.marks)) (done_list l.done) (view (g.S.Store.pairs l.store)))
-    × (g.S.Store.sound l.initial.store → g.S.Store.sound l.store)
+    (OnCourse (meaning g.T.Translator.means g.T.Translator.same) (stored g.S.Store.LIMIT (g.S.Store.rows l.initial.store)) (members l.project) l.places (drop l.place-index l.places) (view (g.S.Store.pairs l.initial.store)) (numbers (held l.marks)) (done_list l.done) (view (g.S.Store.pairs l.store)))
     × (g.S.Store.rows l.store ≡ g.S.Store.rows l.initial.store)
     × (length (held l.marks) ≤ l.place-index)
     × (length (done_list l.done) ≤ l.place-index)

@@ -17,12 +17,11 @@ returns-in-Ok g c =
     let k = c.in-Ok.mark in
     let one = marked_more was marks k (is_ok c.push.result) c.push.ensures.fits c.requires c.push.ensures.after in
     record {
-      goes = λ s few more.
-          goes_on (meaning g.T.Translator.means g.T.Translator.same) (stored g.S.Store.limit (g.S.Store.rows c.args.store.now)) (members c.args.project.now) c.args.place more (member c.in-Some.unit.now) (done_list c.args.done.now) (done_list c.build_unit.new.done)
-          (view (g.S.Store.pairs c.args.store.now)) (view (g.S.Store.pairs c.build_unit.new.store)) was marks c.in-Some.ensures k (told.built s few) one;
+      goes = λ few more.
+          goes_on (meaning g.T.Translator.means g.T.Translator.same) (stored g.S.Store.LIMIT (g.S.Store.rows c.args.store.now)) (members c.args.project.now) c.args.place more (member c.in-Some.unit.now) (done_list c.args.done.now) (done_list c.build_unit.new.done)
+          (view (g.S.Store.pairs c.args.store.now)) (view (g.S.Store.pairs c.build_unit.new.store)) was marks c.in-Some.ensures k (told.built few) one;
       grows = told.grows;
       marks = few_marks was marks k (is_ok c.push.result) c.push.ensures.after;
-      stays = told.stays;
       rows = told.rows;
       counts = λ a e. counts_on a _ _ (numbers was) (numbers marks) _ e told.counts one;
     }
@@ -34,12 +33,11 @@ returns-in-Err g c =
     let marks = held c.push-in-Err.new.self in
     let one = marked_more was marks Failed (is_ok c.push-in-Err.result) c.push-in-Err.ensures.fits c.requires c.push-in-Err.ensures.after in
     record {
-      goes = λ s few more.
-          goes_off (meaning g.T.Translator.means g.T.Translator.same) (stored g.S.Store.limit (g.S.Store.rows c.args.store.now)) (members c.args.project.now) c.args.place more (member c.in-Some.unit.now) (done_list c.args.done.now) (done_list c.build_unit.new.done)
-          (view (g.S.Store.pairs c.args.store.now)) (view (g.S.Store.pairs c.build_unit.new.store)) was marks c.in-Some.ensures c.in-Err.stop _ c.name.ensures refl (told.built s few) one;
+      goes = λ few more.
+          goes_off (meaning g.T.Translator.means g.T.Translator.same) (stored g.S.Store.LIMIT (g.S.Store.rows c.args.store.now)) (members c.args.project.now) c.args.place more (member c.in-Some.unit.now) (done_list c.args.done.now) (done_list c.build_unit.new.done)
+          (view (g.S.Store.pairs c.args.store.now)) (view (g.S.Store.pairs c.build_unit.new.store)) was marks c.in-Some.ensures c.in-Err.stop _ c.name.ensures refl (told.built few) one;
       grows = told.grows;
       marks = few_marks was marks Failed (is_ok c.push-in-Err.result) c.push-in-Err.ensures.after;
-      stays = told.stays;
       rows = told.rows;
       counts = λ a e. counts_on a _ _ (numbers was) (numbers marks) _ e told.counts one;
     }

@@ -9,10 +9,9 @@ pub returns : goal.returns
 returns g c =
     let before = g.S.Store.pairs c.args.store.now in
     let after = g.S.Store.pairs c.put.new.self in
-    let says : g.S.Store.sound c.args.store.now → PutSays g.S.Store.limit (g.S.Store.rows c.args.store.now) before after c.args.name.bytes (artifact_bytes (art c.args.fresh.now)) (answer c.put.result) =
-    λ s. subst (λ bs. PutSays g.S.Store.limit (g.S.Store.rows c.args.store.now) before after c.args.name.bytes bs (answer c.put.result)) (c.as_slice.ensures ∙ c.write.ensures.bytes) (c.put.ensures.says s) in
+    let says : PutSays g.S.Store.LIMIT (g.S.Store.rows c.args.store.now) before after c.args.name.bytes (artifact_bytes (art c.args.fresh.now)) (answer c.put.result) =
+    subst (λ bs. PutSays g.S.Store.LIMIT (g.S.Store.rows c.args.store.now) before after c.args.name.bytes bs (answer c.put.result)) (c.as_slice.ensures ∙ c.write.ensures.bytes) c.put.ensures.says in
     record {
-      says = λ s. record { outcome = (says s).outcome; view = put_viewed (answer c.put.result) before after c.args.name.bytes (artifact_bytes (art c.args.fresh.now)) (says s).pairs };
-      stays = c.put.ensures.stays;
+      says = record { outcome = says.outcome; view = put_viewed (answer c.put.result) before after c.args.name.bytes (artifact_bytes (art c.args.fresh.now)) says.pairs };
       rows = c.put.ensures.rows;
     }

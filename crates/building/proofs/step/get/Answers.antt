@@ -13,10 +13,9 @@ pub returns-in-Ok : goal.returns-in-Ok
 returns-in-Ok g c =
     let told = c.in-Ok.ensures in
     record {
-      holds = λ s. in_front (lookup (g.S.Store.pairs c.args.store.now) c.args.name.bytes) c.args.buffer.now c.get.new.buffer c.in-Ok.length (told.says s).told (told.says s).outcome (told.says s).filled;
+      holds = in_front (lookup (g.S.Store.pairs c.args.store.now) c.args.name.bytes) c.args.buffer.now c.get.new.buffer c.in-Ok.length told.says.told told.says.outcome told.says.filled;
       within = in_room c.in-Ok.length (length c.args.buffer.now) c.told-buffer told.within;
-      pairs = λ s. (told.says s).pairs;
-      stays = told.stays;
+      pairs = told.says.pairs;
       rows = told.rows;
     }
 
@@ -24,9 +23,8 @@ pub returns-in-Err : goal.returns-in-Err
 returns-in-Err g c =
     let told = c.in-Err.ensures in
     record {
-      holds = λ s. refused_long round_trip (lookup (g.S.Store.pairs c.args.store.now) c.args.name.bytes) c.in-Err.field-0 (length c.args.buffer.now) c.told-buffer (told.says s).outcome;
+      holds = refused_long round_trip (lookup (g.S.Store.pairs c.args.store.now) c.args.name.bytes) c.in-Err.field-0 (length c.args.buffer.now) c.told-buffer told.says.outcome;
       within = tt;
-      pairs = λ s. (told.says s).pairs;
-      stays = told.stays;
+      pairs = told.says.pairs;
       rows = told.rows;
     }

@@ -20,12 +20,11 @@ returns-in_default g c =
     let ps = g.S.Store.pairs c.args.store.now in
     let qs = g.S.Store.pairs c.get.new.store in
     record {
-      built = λ s few.
-          from_here m g.S.Store.limit (g.S.Store.rows c.args.store.now) (g.S.Store.rows c.get.new.store) u ds (done_list c.make_unit.new.done) ps qs (view (g.S.Store.pairs c.make_unit.new.store)) c.make_unit.result got.rows (got.pairs s)
-          (made.built (got.stays s) few u (sym c.name-name.ensures) c.prepare.ensures
-          (ap (λ xs. current m u (interfaces ds u) (artifact_in (lookup xs u.name.bytes))) (got.pairs s) ∙ ap (current m u (interfaces ds u)) (ap (λ n. artifact_in (lookup ps n.bytes)) (sym c.name-name.ensures) ∙ sym (got.holds s))));
+      built = λ few.
+          from_here m g.S.Store.LIMIT (g.S.Store.rows c.args.store.now) (g.S.Store.rows c.get.new.store) u ds (done_list c.make_unit.new.done) ps qs (view (g.S.Store.pairs c.make_unit.new.store)) c.make_unit.result got.rows got.pairs
+          (made.built few u (sym c.name-name.ensures) c.prepare.ensures
+          (ap (λ xs. current m u (interfaces ds u) (artifact_in (lookup xs u.name.bytes))) got.pairs ∙ ap (current m u (interfaces ds u)) (ap (λ n. artifact_in (lookup ps n.bytes)) (sym c.name-name.ensures) ∙ sym got.holds)));
       grows = made.grows;
-      stays = λ s. made.stays (got.stays s);
       rows = made.rows ∙ got.rows;
       counts = made.counts;
     }
@@ -40,15 +39,14 @@ returns-in_default-current g c =
     let ps = g.S.Store.pairs c.args.store.now in
     let qs = g.S.Store.pairs c.get.new.store in
     record {
-      built = λ s few.
-          from_here m g.S.Store.limit (g.S.Store.rows c.args.store.now) (g.S.Store.rows c.get.new.store) u ds (done_list c.make_unit-in_default-current.new.done) ps qs (view (g.S.Store.pairs c.make_unit-in_default-current.new.store)) c.make_unit-in_default-current.result got.rows (got.pairs s)
-          (made.built (got.stays s) few u (sym c.name-name.ensures) c.prepare.ensures
-          (ap (λ xs. current m u (interfaces ds u) (artifact_in (lookup xs u.name.bytes))) (got.pairs s)
-          ∙ ap (current m u (interfaces ds u)) (ap (λ n. artifact_in (lookup ps n.bytes)) (sym c.name-name.ensures) ∙ sym (got.holds s))
+      built = λ few.
+          from_here m g.S.Store.LIMIT (g.S.Store.rows c.args.store.now) (g.S.Store.rows c.get.new.store) u ds (done_list c.make_unit-in_default-current.new.done) ps qs (view (g.S.Store.pairs c.make_unit-in_default-current.new.store)) c.make_unit-in_default-current.result got.rows got.pairs
+          (made.built few u (sym c.name-name.ensures) c.prepare.ensures
+          (ap (λ xs. current m u (interfaces ds u) (artifact_in (lookup xs u.name.bytes))) got.pairs
+          ∙ ap (current m u (interfaces ds u)) (ap (λ n. artifact_in (lookup ps n.bytes)) (sym c.name-name.ensures) ∙ sym got.holds)
           ∙ current_is m u (interfaces ds u) (art c.prepare.new.fresh) (in_buffer (Some c.in-Some.length) c.get.new.buffer) c.prepare.ensures
           ∙ sym c.in_default-current.ensures));
       grows = made.grows;
-      stays = λ s. made.stays (got.stays s);
       rows = made.rows ∙ got.rows;
       counts = made.counts;
     }
@@ -63,15 +61,14 @@ returns g c =
     let qs = g.S.Store.pairs c.get.new.store in
     let kept = art c.current.new.kept in
     record {
-      built = λ s few.
-          unit_kept m g.S.Store.limit (g.S.Store.rows c.args.store.now) u ds (done_list c.push.new.self) (view ps) (view qs) kept
-          (ap (current m u (interfaces ds u)) (ap (λ n. artifact_in (lookup ps n.bytes)) (sym c.name-name.ensures) ∙ sym (got.holds s))
+      built = λ few.
+          unit_kept m g.S.Store.LIMIT (g.S.Store.rows c.args.store.now) u ds (done_list c.push.new.self) (view ps) (view qs) kept
+          (ap (current m u (interfaces ds u)) (ap (λ n. artifact_in (lookup ps n.bytes)) (sym c.name-name.ensures) ∙ sym got.holds)
           ∙ current_is m u (interfaces ds u) (art c.prepare.new.fresh) (in_buffer (Some c.in-Some.length) c.get.new.buffer) c.prepare.ensures
           ∙ sym c.in-Some-current.ensures)
-          (taken m g.S.Store.limit (g.S.Store.rows c.args.store.now) u ds (done_list c.push.new.self) (view ps) (view qs) c.name-name.result kept.product c.push.result (sym c.name-name.ensures) c.push.ensures.fits few c.push.ensures.after)
-          (ap view (got.pairs s));
+          (taken m g.S.Store.LIMIT (g.S.Store.rows c.args.store.now) u ds (done_list c.push.new.self) (view ps) (view qs) c.name-name.result kept.product c.push.result (sym c.name-name.ensures) c.push.ensures.fits few c.push.ensures.after)
+          (ap view got.pairs);
       grows = few_more ds (done_list c.push.new.self) _ c.push.result c.push.ensures.after;
-      stays = got.stays;
       rows = got.rows;
       counts = refl;
     }

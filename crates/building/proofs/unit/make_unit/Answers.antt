@@ -11,11 +11,10 @@ returns-in-Err g c =
     let told = c.in-Err.ensures in
     let ds = done_list c.args.done.now in
     record {
-      built = λ s few u named fresh none.
-          unit_stopped (meaning g.T.Translator.means g.T.Translator.same) g.S.Store.limit (g.S.Store.rows c.args.store.now) u ds ds (view (g.S.Store.pairs c.args.store.now)) (view (g.S.Store.pairs c.make.new.store))
-          c.args.name (art c.args.desk.now.fresh) named fresh none (art c.make.new.desk.fresh) c.in-Err.stop (told.says s) refl;
+      built = λ few u named fresh none.
+          unit_stopped (meaning g.T.Translator.means g.T.Translator.same) g.S.Store.LIMIT (g.S.Store.rows c.args.store.now) u ds ds (view (g.S.Store.pairs c.args.store.now)) (view (g.S.Store.pairs c.make.new.store))
+          c.args.name (art c.args.desk.now.fresh) named fresh none (art c.make.new.desk.fresh) c.in-Err.stop told.says refl;
       grows = omega arith;
-      stays = told.stays;
       rows = told.rows;
       counts = told.counts;
     }
@@ -25,11 +24,10 @@ returns g c =
     let told = c.in-Ok.ensures in
     let ds = done_list c.args.done.now in
     record {
-      built = λ s few u named fresh none.
-          unit_made (meaning g.T.Translator.means g.T.Translator.same) g.S.Store.limit (g.S.Store.rows c.args.store.now) u ds (done_list c.push.new.self) (view (g.S.Store.pairs c.args.store.now)) (view (g.S.Store.pairs c.make.new.store))
-          c.args.name (art c.args.desk.now.fresh) named fresh none (art c.make.new.desk.fresh) c.push.result (told.says s) c.push.ensures.fits few c.push.ensures.after;
+      built = λ few u named fresh none.
+          unit_made (meaning g.T.Translator.means g.T.Translator.same) g.S.Store.LIMIT (g.S.Store.rows c.args.store.now) u ds (done_list c.push.new.self) (view (g.S.Store.pairs c.args.store.now)) (view (g.S.Store.pairs c.make.new.store))
+          c.args.name (art c.args.desk.now.fresh) named fresh none (art c.make.new.desk.fresh) c.push.result told.says c.push.ensures.fits few c.push.ensures.after;
       grows = few_more ds (done_list c.push.new.self) _ c.push.result c.push.ensures.after;
-      stays = told.stays;
       rows = told.rows;
       counts = told.counts;
     }

@@ -1,73 +1,25 @@
-use Rattle.std.proofs.Common.{◌≡◌, ℕ, Bool, true, false, cond, List, ◌∷◌, length, is_some, vec_items, sym, refl, ap, ◌∙◌, subst, rules}
-use Rattle.store.specs.declared.call.Call.{Call}
-use Rattle.store.specs.declared.call.Call.TheVariants.{Put, Drop}
-use Rattle.store.specs.declared.call.Answer.TheVariants.{Done, Nothing}
+use Rattle.std.proofs.Common.{ℕ, List, subst}
 use Rattle.store.specs.Says.{PutSays}
-use Rattle.store.specs.Runs.{Stands, told, due, done, standing}
-use Rattle.store.proofs.Leads.{put_is_due, put_leads, drop_leads}
+use Rattle.store.proofs.Leads.{put_told, drop_told}
 use Rattle.store.proofs.runs.act.Goals as goal
 
-pub returns-in-Ok : goal.returns-in-Ok
-returns-in-Ok g c =
-    let limit = g.S.Store.limit in
+pub returns-in_ok-put-in-Put-clause-leads : goal.returns-in_ok-put-in-Put-clause-leads
+returns-in_ok-put-in-Put-clause-leads g c =
     let rows = g.S.Store.rows c.args.store.now in
     let before = g.S.Store.pairs c.args.store.now in
     let after = g.S.Store.pairs c.put.new.self in
-    let key = c.in-Put.name.bytes in
-    let bs = vec_items c.in-Put.bytes in
-    let said : g.S.Store.sound c.args.store.now → PutSays limit rows before after key bs 0 = λ s. subst (λ (x : List ℕ). PutSays limit rows before after key x 0) c.as_slice.ensures.value (c.in-Ok.ensures.says s) in
-    record {
-      answers =
-          λ s past st.
-          let call : Call = Put c.in-Put.name c.in-Put.bytes in
-          let e : Done ≡ due limit rows past c.args.call.now (length c.args.buffer.now) = subst (λ (x : Call). Done ≡ due limit rows past x (length c.args.buffer.now)) (sym c.in-Put.is) (ap done (put_is_due past past key bs before after st limit rows 0 (said s))) in
-          record { answer = e; filled = search rules };
-      leads =
-          λ s past st.
-          let call : Call = Put c.in-Put.name c.in-Put.bytes in
-          subst (λ (x : Call). Stands (told limit rows past x) after) (sym c.in-Put.is) (put_leads past (call ∷ past) key bs before after st limit rows 0 (said s) (λ k. refl) refl);
-      stays = c.put.ensures.stays;
-      rows = c.put.ensures.rows;
-    }
+    λ past stands.
+    put_told g.S.Store.LIMIT rows past c.args.call.now before after stands c.in-Put.name c.in-Put.bytes c.in-Put.is
+    (subst (λ (x : List ℕ). PutSays g.S.Store.LIMIT rows before after c.in-Put.name.bytes x 0) c.as_slice.ensures.value c.in_ok-put-in-Put.ensures.says)
 
-pub returns-then-drop : goal.returns-then-drop
-returns-then-drop g c =
-    let limit = g.S.Store.limit in
-    let rows = g.S.Store.rows c.args.store.now in
-    let before = g.S.Store.pairs c.args.store.now in
-    let after = g.S.Store.pairs c.drop.new.self in
-    let key = c.in-Drop.name.bytes in
-    record {
-      answers =
-          λ s past st.
-          let held : true ≡ is_some (standing past key) = sym c.if-drop.true ∙ (c.drop.ensures.says s).found ∙ ap is_some (st.records key) in
-          let e : Done ≡ due limit rows past c.args.call.now (length c.args.buffer.now) = subst (λ (x : Call). Done ≡ due limit rows past x (length c.args.buffer.now)) (sym c.in-Drop.is) (ap (λ (b : Bool). cond b Done Nothing) held) in
-          record { answer = e; filled = search rules };
-      leads =
-          λ s past st.
-          let call : Call = Drop c.in-Drop.name in
-          subst (λ (x : Call). Stands (told limit rows past x) after) (sym c.in-Drop.is) (drop_leads past (call ∷ past) key key before after st c.drop.result (c.drop.ensures.says s) (g.met.S.Store.apart c.args.store.now s) (λ k. refl) refl);
-      stays = c.drop.ensures.stays;
-      rows = c.drop.ensures.rows;
-    }
+pub returns-then-held-clause-leads : goal.returns-then-held-clause-leads
+returns-then-held-clause-leads g c =
+    λ past stands.
+    drop_told g.S.Store.LIMIT (g.S.Store.rows c.args.store.now) past c.args.call.now (g.S.Store.pairs c.args.store.now) (g.S.Store.pairs c.drop-held.new.self) stands
+    c.in-Drop.name c.drop-held.result c.in-Drop.is c.drop-held.ensures.says (g.met.S.Store.apart c.args.store.now)
 
-pub returns-else-drop : goal.returns-else-drop
-returns-else-drop g c =
-    let limit = g.S.Store.limit in
-    let rows = g.S.Store.rows c.args.store.now in
-    let before = g.S.Store.pairs c.args.store.now in
-    let after = g.S.Store.pairs c.drop.new.self in
-    let key = c.in-Drop.name.bytes in
-    record {
-      answers =
-          λ s past st.
-          let held : false ≡ is_some (standing past key) = sym c.if-drop.false ∙ (c.drop.ensures.says s).found ∙ ap is_some (st.records key) in
-          let e : Nothing ≡ due limit rows past c.args.call.now (length c.args.buffer.now) = subst (λ (x : Call). Nothing ≡ due limit rows past x (length c.args.buffer.now)) (sym c.in-Drop.is) (ap (λ (b : Bool). cond b Done Nothing) held) in
-          record { answer = e; filled = search rules };
-      leads =
-          λ s past st.
-          let call : Call = Drop c.in-Drop.name in
-          subst (λ (x : Call). Stands (told limit rows past x) after) (sym c.in-Drop.is) (drop_leads past (call ∷ past) key key before after st c.drop.result (c.drop.ensures.says s) (g.met.S.Store.apart c.args.store.now s) (λ k. refl) refl);
-      stays = c.drop.ensures.stays;
-      rows = c.drop.ensures.rows;
-    }
+pub returns-else-held-clause-leads : goal.returns-else-held-clause-leads
+returns-else-held-clause-leads g c =
+    λ past stands.
+    drop_told g.S.Store.LIMIT (g.S.Store.rows c.args.store.now) past c.args.call.now (g.S.Store.pairs c.args.store.now) (g.S.Store.pairs c.drop-held.new.self) stands
+    c.in-Drop.name c.drop-held.result c.in-Drop.is c.drop-held.ensures.says (g.met.S.Store.apart c.args.store.now)

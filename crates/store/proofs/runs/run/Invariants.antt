@@ -4,4 +4,4 @@ use Rattle.store.specs.Runs.{Stands, told_all}
 use Rattle.store.proofs.runs.run.Given as goal
 
 abbrev pub invariant-loop-call : goal.invariant-loop-call
-invariant-loop-call g l = (g.S.Store.sound l.initial.store → (past : List Call) → Stands past (g.S.Store.pairs l.initial.store) → Stands (told_all g.S.Store.limit (g.S.Store.rows l.initial.store) past (take l.call-index l.calls)) (g.S.Store.pairs l.store)) × (g.S.Store.sound l.initial.store → g.S.Store.sound l.store) × (g.S.Store.rows l.store ≡ g.S.Store.rows l.initial.store)
+invariant-loop-call g l = ((past : List Call) → Stands past (g.S.Store.pairs l.initial.store) → Stands (told_all g.S.Store.LIMIT (g.S.Store.rows l.initial.store) past (take l.call-index l.calls)) (g.S.Store.pairs l.store)) × (g.S.Store.rows l.store ≡ g.S.Store.rows l.initial.store)

@@ -1,7 +1,7 @@
 use Rattle.std.proofs.Common.{◌≡◌, ℕ, ◌+◌, ◌≤◌, length, take, vec_items, vec_len, sym, refl, ap, ◌∙◌, arith}
 use Rattle.store.specs.Pairs.{once}
 use Rattle.area.specs.Layout.{rows_of}
-use Rattle.area.proofs.Records.{name-length}
+use Rattle.names.proofs.Spelled.{padded_eight}
 use Rattle.log_store.specs.Chain.{records, log_pairs}
 use Rattle.log_store.proofs.Marks.{longer_by, once_more, length_more}
 use Rattle.log_store.proofs.logs.LogStore.append.Goals as goal
@@ -15,7 +15,7 @@ invariant_of-self c =
     let long : vec_len s.area ≡ length xs = s.area.ok.0 in
     let i = s.inside in
     let within : s.end ≤ length xs = omega arith in
-    let made = longer_by s.end (vec_len s.area) xs (vec_items c.write.new.area) q bs c.write.result within long s.good (name-length q c.args.name.valid) c.requires.short c.requires.room c.write.ensures.fits c.write.ensures.after in
+    let made = longer_by s.end (vec_len s.area) xs (vec_items c.write.new.area) q bs c.write.result within long s.good (padded_eight q c.args.name.valid) c.requires.short c.requires.room c.write.ensures.fits c.write.ensures.after in
     let l = c.write.ensures.len in
     let L = log_pairs (records (take s.end xs)) in
     let m = length_more L q bs in
@@ -41,5 +41,5 @@ returns c =
     let long : vec_len s.area ≡ length xs = s.area.ok.0 in
     let i = s.inside in
     let within : s.end ≤ length xs = omega arith in
-    let made = longer_by s.end (vec_len s.area) xs (vec_items c.write.new.area) q bs c.write.result within long s.good (name-length q c.args.name.valid) c.requires.short c.requires.room c.write.ensures.fits c.write.ensures.after in
+    let made = longer_by s.end (vec_len s.area) xs (vec_items c.write.new.area) q bs c.write.result within long s.good (padded_eight q c.args.name.valid) c.requires.short c.requires.room c.write.ensures.fits c.write.ensures.after in
     record { marks = made.marks; pairs = made.pairs; rows = refl; len = c.write.ensures.len }
