@@ -1,6 +1,6 @@
 -- What a name is: a letter, then letters or digits, eight bytes in all with zero bytes behind.
-use Rattle.std.specs.Prelude.{ℕ, ◌-◌, Bool, true, false, ◌&&◌, ◌||◌, List, [], ◌∷◌, ◌++◌, length, replicate, ◌==◌, nat_le}
-use Rattle.std.specs.List.{list_all}
+use Rattle.std.specs.Prelude.{ℕ, ◌-◌, Bool, false, ◌&&◌, ◌||◌, List, [], ◌∷◌, ◌++◌, length, drop, replicate, ◌==◌, nat_le}
+use Rattle.std.specs.List.{list_all, prefix_len}
 
 -- a letter from a to z
 abbrev pub letter : ℕ → Bool
@@ -16,13 +16,11 @@ continues b = letter b || digit b
 
 -- zero bytes only
 abbrev pub blank : List ℕ → Bool
-blank [] = true
-blank (b ∷ bs) = b == 0 && blank bs
+blank = list_all (λ b. b == 0)
 
 -- letters or digits, then zero bytes
 abbrev pub tail : List ℕ → Bool
-tail [] = true
-tail (b ∷ bs) = (continues b && tail bs) || (b == 0 && blank bs)
+tail bs = blank (drop (prefix_len continues bs) bs)
 
 -- the padded form: eight bytes, a letter first, zero bytes only at the end
 abbrev pub padded_name : List ℕ → Bool

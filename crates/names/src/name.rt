@@ -2,7 +2,7 @@ ghost use Rattle.std.specs.Prelude.{◌≡◌, true, [], ◌∷◌};
 ghost use Rattle.names.specs.Spelling.{padded_name};
 
 // A name: its eight bytes, with zero bytes behind the letters and digits. Names are ordered by these bytes.
-#[derive(Clone, Copy, PartialEq, Eq, PartialOrd, Ord)]
+#[derive(Clone, Copy, Debug, PartialEq, Eq, PartialOrd, Ord)]
 pub struct Name {
     pub(crate) bytes: [u8; 8],
     ghost valid: { padded_name bytes ≡ true },

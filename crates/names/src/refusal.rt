@@ -5,14 +5,15 @@ ghost use Rattle.names.specs.Refusals.{number};
 use crate::name::Name;
 
 // What is wrong with a source: a code, and the line that it is about, 0 for the whole source.
-#[derive(Clone, Copy)]
+// A code is a number, since each language has codes of its own.
+#[derive(Clone, Copy, Debug, PartialEq, Eq)]
 pub struct Fault {
     pub code: u8,
     pub line: u16,
 }
 
 // One case for each refusal, with what its reader needs to find the place.
-#[derive(Clone, Copy)]
+#[derive(Clone, Copy, Debug, PartialEq, Eq)]
 pub enum Refusal {
     // the bytes are no name
     NotAName,

@@ -1,17 +1,21 @@
-// Names and refusals as a person reads them.
+// Names, faults and refusals as a person reads them.
 use crate::name::Name;
-use crate::refusal::Refusal;
+use crate::refusal::{Fault, Refusal};
 use std::fmt;
 use std::fmt::Write;
 
 impl fmt::Display for Name {
     fn fmt<W: fmt::Write>(&self, f: &mut fmt::Formatter<W>) -> fmt::Result {
-        for b in self.bytes {
-            if b != 0 {
-                f.write_char(b as char)?;
-            }
+        for b in self.bytes.iter().take_while(|b| **b != 0) {
+            f.write_char(char::from(*b))?;
         }
         Ok(())
+    }
+}
+
+impl fmt::Display for Fault {
+    fn fmt<W: fmt::Write>(&self, f: &mut fmt::Formatter<W>) -> fmt::Result {
+        write!(f, "fault {} line {}", self.code, self.line)
     }
 }
 
@@ -33,11 +37,7 @@ impl fmt::Display for Refusal {
                 " unit {unit} position {position}"
             ),
             Refusal::ImportCircle { unit } => write!(f, " unit {unit}"),
-            Refusal::Faulty { unit, fault } => {
-                let code = fault.code;
-                let line = fault.line;
-                write!(f, " unit {unit} fault {code} line {line}")
-            }
+            Refusal::Faulty { unit, fault } => write!(f, " unit {unit} {fault}"),
             Refusal::StoreFull { unit } => show_unit(unit, f),
             Refusal::RecordTooLong { unit } => show_unit(unit, f),
             Refusal::EntryMissing { unit, reference } => write!(

@@ -9,28 +9,23 @@ use crate::refusal::Refusal;
 fn is_letter(b: u8) -> bool
     ensures { result ≡ letter b }
 {
-    b >= b'a' && b <= b'z'
+    b.is_ascii_lowercase()
 }
 
 fn may_follow(b: u8) -> bool
     ensures { result ≡ continues b }
 {
-    is_letter(b) || (b >= b'0' && b <= b'9')
+    is_letter(b) || b.is_ascii_digit()
 }
 
 // Letters or digits, then zero bytes.
 fn is_tail(bytes: &[u8]) -> bool
     ensures { result ≡ tail bytes.now }
 {
-    let mut ended = false;
-    for b in bytes {
-        if *b == 0 {
-            ended = true;
-        } else if ended || !may_follow(*b) {
-            return false;
-        }
-    }
-    true
+    bytes
+        .iter()
+        .skip_while(|b| may_follow(**b))
+        .all(|b| *b == 0)
 }
 
 // Letters or digits only.
@@ -43,19 +38,19 @@ fn is_plain(bytes: &[u8]) -> bool
 fn is_padded(bytes: &[u8]) -> bool
     ensures { result ≡ padded_name bytes.now }
 {
-    if bytes.len() != 8 || !is_letter(bytes[0]) {
-        return false;
+    match bytes {
+        [first, rest @ ..] => rest.len() == 7 && is_letter(*first) && is_tail(rest),
+        [] => false,
     }
-    is_tail(&bytes[1..])
 }
 
 fn is_written(text: &[u8]) -> bool
     ensures { result ≡ written_name text.now }
 {
-    if text.is_empty() || text.len() > 8 || !is_letter(text[0]) {
-        return false;
+    match text {
+        [first, rest @ ..] => rest.len() <= 7 && is_letter(*first) && is_plain(rest),
+        [] => false,
     }
-    is_plain(&text[1..])
 }
 
 impl Name {

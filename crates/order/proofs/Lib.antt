@@ -2,4 +2,3 @@ pub mod Counts
 pub mod Laws
 pub mod Least
 pub mod Placing
-pub mod Turns

@@ -1,7 +1,8 @@
 -- The dependency order of items, each with a key and with needs: keys that have to come first.
 -- Items are told apart by their place in the list of keys. An item that is placed stands in the list `done` by that place.
-use Rattle.std.specs.Prelude.{◌≡◌, ℕ, zero, suc, ◌+◌, Bool, true, false, cond, not, ◌&&◌, ◌||◌, List, [], ◌∷◌, ◌++◌, length, drop, Some, None, Option, ◌==◌, nat_lt, Ok, Err, Result}
+use Rattle.std.specs.Prelude.{◌≡◌, ℕ, zero, suc, ◌+◌, Bool, true, cond, not, ◌&&◌, ◌||◌, List, [], ◌∷◌, ◌++◌, length, drop, Some, None, Option, ◌==◌, nat_lt, Ok, Err, Result}
 use Rattle.std.specs.declared.cmp.Ordering.{Ordering}
+use Rattle.std.specs.List.{list_any, list_all, enumerate_from}
 use Rattle.std.specs.Option.{unwrap_or, option_map}
 use Rattle.std.specs.Ordering.{is_eq, is_lt}
 use Rattle.order.specs.declared.Need.{Need}
@@ -10,8 +11,7 @@ use Rattle.order.specs.declared.Unordered.TheVariants.{Stuck, Short}
 
 -- the item i is placed
 abbrev pub placed : List ℕ → ℕ → Bool
-placed [] i = false
-placed (p ∷ ps) i = p == i || placed ps i
+placed done i = list_any (λ p. p == i) done
 
 -- how often the item i is placed
 abbrev pub times : List ℕ → ℕ → ℕ
@@ -31,13 +31,11 @@ pub data Outcome : Type 0 where
 module _ {K : Type 0} (cmp : K → K → Ordering) where
   -- of these keys, from place j on, all that equal k are placed
   abbrev pub settled : List ℕ → K → ℕ → List K → Bool
-  settled done k j [] = true
-  settled done k j (x ∷ xs) = (not (is_eq (cmp x k)) || placed done j) && settled done k (j + 1) xs
+  settled done k j keys = list_all (λ p. not (is_eq (cmp p.1 k)) || placed done p.0) (enumerate_from j keys)
 
   -- each of these needs that is one of the item i is settled
   abbrev pub free : List K → List ℕ → ℕ → List (Need K) → Bool
-  free keys done i [] = true
-  free keys done i (n ∷ ns) = (not (n.item == i) || settled done n.key 0 keys) && free keys done i ns
+  free keys done i needs = list_all (λ n. not (n.item == i) || settled done n.key 0 keys) needs
 
   -- of these keys none that passes is smaller than k
   abbrev pub unbeaten : (ℕ → Bool) → K → List K → Bool

@@ -4,7 +4,6 @@
 #![tactic(auto)]
 
 ghost use Rattle.std.specs.Prelude.{◌≡◌, ◌<◌, length, slice_index_or};
-ghost use Rattle.std.specs.Cmp.{IsTotalOrder};
 ghost use Rattle.std.specs.Ordering.{is_eq, is_lt};
 ghost use Rattle.order.specs.Dependency.{placed, settled, free, ready, next, left, ordered, Answers};
 ghost use Rattle.order.specs.Law.{Lawful};
@@ -26,12 +25,7 @@ pub enum Unordered {
 fn is_placed(done: &[usize], item: usize) -> bool
     ensures { result ≡ placed done.now item }
 {
-    for p in done {
-        if *p == item {
-            return true;
-        }
-    }
-    false
+    done.iter().any(|p| *p == item)
 }
 
 fn same<K: Ord>(a: &K, b: &K) -> bool
@@ -48,26 +42,20 @@ fn less<K: Ord>(a: &K, b: &K) -> bool
 
 // Every item of the key is placed.
 fn is_settled<K: Ord>(keys: &[K], done: &[usize], key: &K) -> bool
-    ensures { (o : IsTotalOrder K.Ord.cmp) → result ≡ settled K.Ord.cmp done.now key.now 0 keys.now }
+    ensures { result ≡ settled K.Ord.cmp done.now key.now 0 keys.now }
 {
-    for (j, k) in keys.iter().enumerate() {
-        if same(k, key) && !is_placed(done, j) {
-            return false;
-        }
-    }
-    true
+    keys.iter()
+        .enumerate()
+        .all(|(j, k)| !same(k, key) || is_placed(done, j))
 }
 
 // Every need of the item is settled.
 fn is_free<K: Ord>(keys: &[K], needs: &[Need<K>], done: &[usize], item: usize) -> bool
-    ensures { (o : IsTotalOrder K.Ord.cmp) → result ≡ free K.Ord.cmp keys.now done.now item needs.now }
+    ensures { result ≡ free K.Ord.cmp keys.now done.now item needs.now }
 {
-    for n in needs {
-        if n.item == item && !is_settled(keys, done, &n.key) {
-            return false;
-        }
-    }
-    true
+    needs
+        .iter()
+        .all(|n| n.item != item || is_settled(keys, done, &n.key))
 }
 
 // The item is not placed, and all its needs are.
@@ -90,9 +78,10 @@ fn beats<K: Ord>(keys: &[K], i: usize, b: usize) -> bool
 
 // The item that comes next behind those placed, if any can.
 fn pick<K: Ord>(keys: &[K], needs: &[Need<K>], done: &[usize]) -> Option<usize>
-    ensures { (o : IsTotalOrder K.Ord.cmp) → result ≡ next K.Ord.cmp keys.now needs.now done.now }
+    ensures { result ≡ next K.Ord.cmp keys.now needs.now done.now }
 {
     let mut best = None;
+    // over the places, since an item is its place; `min_by` would ask its closure about any place, also one that no item has
     for i in 0..keys.len() {
         if is_ready(keys, needs, done, i) {
             best = match best {
@@ -106,7 +95,7 @@ fn pick<K: Ord>(keys: &[K], needs: &[Need<K>], done: &[usize]) -> Option<usize>
 
 // The smallest item that is not placed.
 fn left_over<K: Ord>(keys: &[K], done: &[usize]) -> Option<usize>
-    ensures { (o : IsTotalOrder K.Ord.cmp) → result ≡ left K.Ord.cmp keys.now done.now }
+    ensures { result ≡ left K.Ord.cmp keys.now done.now }
 {
     let no_needs: [Need<K>; 0] = [];
     pick(keys, &no_needs, done)
@@ -114,11 +103,12 @@ fn left_over<K: Ord>(keys: &[K], done: &[usize]) -> Option<usize>
 
 // Writes the place of each item in the list of keys, in the order in which they come.
 fn fill<K: Ord>(keys: &[K], needs: &[Need<K>], places: &mut [usize]) -> Result<(), Unordered>
-    ensures { (o : IsTotalOrder K.Ord.cmp) → Answers K.Ord.cmp keys.now needs.now places.old places.new result }
+    ensures { Answers K.Ord.cmp keys.now needs.now places.old places.new result }
 {
     if places.len() < keys.len() {
         return Err(Unordered::Short);
     }
+    // by the place, since what stands before it is read while it is written
     for count in 0..keys.len() {
         let Some(item) = pick(keys, needs, &places[0..count]) else {
             return Err(Unordered::Stuck(left_over(keys, &places[0..count]).unwrap_or(0)));
@@ -130,7 +120,7 @@ fn fill<K: Ord>(keys: &[K], needs: &[Need<K>], places: &mut [usize]) -> Result<(
 
 // The order that the definition gives is the only list that meets the rule.
 fn is_lawful<K: Ord>(_keys: &[K], _needs: &[Need<K>])
-    ensures { (o : IsTotalOrder K.Ord.cmp) → Lawful K.Ord.cmp _keys.now _needs.now (ordered K.Ord.cmp _keys.now _needs.now) }
+    ensures { Lawful K.Ord.cmp _keys.now _needs.now (ordered K.Ord.cmp _keys.now _needs.now) }
 {}
 
 // The smallest item that is not placed, if any is left.

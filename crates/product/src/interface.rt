@@ -44,7 +44,7 @@ impl Interface {
         self.list.clear();
     }
 
-    // The rows of another interface in place of its own.
+    // The rows of another interface in place of its own. A clone would want memory, and this never does.
     pub fn copy_from(&mut self, other: &Interface)
         ensures { rows self.new ≡ rows other.now }
     {

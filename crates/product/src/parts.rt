@@ -42,7 +42,7 @@ impl Product {
         self.references.clear();
     }
 
-    // The parts of another product in place of its own.
+    // The parts of another product in place of its own. A clone would want memory, and this never does.
     pub fn copy_from(&mut self, other: &Product)
         ensures { parts self.new ≡ parts other.now }
     {

@@ -20,10 +20,10 @@ shape_of-places-in_default g c = c.loop-count.invariant.2
 pub returns-in_default : goal.returns-in_default
 returns-in_default g c =
     let at = front c.loop-count.count c.loop-count.places in
-    λ o. placing_sticks g.K.Ord.cmp c.args.keys.now c.args.needs.now c.loop-count.count c.loop-count.places c.args.places.now (c.loop-count.invariant.0 o) c.loop-count.invariant.1
+    placing_sticks g.K.Ord.cmp c.args.keys.now c.args.needs.now c.loop-count.count c.loop-count.places c.args.places.now c.loop-count.invariant.0 c.loop-count.invariant.1
     _ c.unwrap_or.result c.loop-count-test.true (omega arith) (omega arith)
-    (c.in_default.ensures o ∙ ap (next g.K.Ord.cmp c.args.keys.now c.args.needs.now) at)
-    (c.unwrap_or.ensures ∙ ap (λ l. unwrap_or l 0) (c.left_over.ensures o ∙ ap (left g.K.Ord.cmp c.args.keys.now) at))
+    (c.in_default.ensures ∙ ap (next g.K.Ord.cmp c.args.keys.now c.args.needs.now) at)
+    (c.unwrap_or.ensures ∙ ap (λ l. unwrap_or l 0) (c.left_over.ensures ∙ ap (left g.K.Ord.cmp c.args.keys.now) at))
     refl
 
 pub bounds-places-count : goal.bounds-places-count
@@ -32,8 +32,8 @@ bounds-places-count g c = omega arith
 pub loop-count-preserved : goal.loop-count-preserved
 loop-count-preserved g c =
     let at = front c.loop-count.count c.loop-count.places in (
-      λ o. placing_goes g.K.Ord.cmp c.args.keys.now c.args.needs.now c.loop-count.count c.loop-count.places c.args.places.now (c.loop-count.invariant.0 o) c.loop-count.invariant.1
-          c.in-Some.item c.loop-count-test.true (omega arith) (c.in-Some.ensures o ∙ ap (next g.K.Ord.cmp c.args.keys.now c.args.needs.now) at),
+      placing_goes g.K.Ord.cmp c.args.keys.now c.args.needs.now c.loop-count.count c.loop-count.places c.args.places.now c.loop-count.invariant.0 c.loop-count.invariant.1
+          c.in-Some.item c.loop-count-test.true (omega arith) (c.in-Some.ensures ∙ ap (next g.K.Ord.cmp c.args.keys.now c.args.needs.now) at),
       rest_goes c.loop-count.count c.loop-count.places c.args.places.now c.in-Some.item c.loop-count.invariant.1,
       length-set c.loop-count.places c.loop-count.count c.in-Some.item ∙ c.loop-count.invariant.2,
     )
@@ -43,5 +43,5 @@ shape_of-places g c = c.loop-count.invariant.2
 
 pub returns : goal.returns
 returns g c =
-    λ o. placing-ends g.K.Ord.cmp c.args.keys.now c.args.needs.now c.loop-count.count c.loop-count.places c.args.places.now (c.loop-count.invariant.0 o) c.loop-count.invariant.1
+    placing-ends g.K.Ord.cmp c.args.keys.now c.args.needs.now c.loop-count.count c.loop-count.places c.args.places.now c.loop-count.invariant.0 c.loop-count.invariant.1
     _ c.loop-count-test.false (omega arith) (omega arith) refl

@@ -3,4 +3,4 @@ use Rattle.order.proofs.Placing.{left_is}
 use Rattle.order.proofs.left_over.Goals as goal
 
 pub returns : goal.returns
-returns g c = λ o. c.pick.ensures o ∙ left_is g.K.Ord.cmp c.args.keys.now c.args.done.now
+returns g c = c.pick.ensures ∙ left_is g.K.Ord.cmp c.args.keys.now c.args.done.now

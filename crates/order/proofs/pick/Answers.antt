@@ -16,4 +16,5 @@ loop-i-preserved g c =
 pub returns : goal.returns
 returns g c =
     let e : c.loop-i.i ≡ length c.args.keys.now = omega arith in
-    λ o. sym (least_is o _ c.args.keys.now _ (subst (λ n. Least o (ready g.K.Ord.cmp c.args.keys.now c.args.needs.now c.args.done.now) c.args.keys.now n c.loop-i.best) e (c.loop-i.invariant.1 o)))
+    let o = g.met.K.Ord.total in
+    sym (least_is o _ c.args.keys.now _ (subst (λ n. Least o (ready g.K.Ord.cmp c.args.keys.now c.args.needs.now c.args.done.now) c.args.keys.now n c.loop-i.best) e (c.loop-i.invariant.1 o)))
