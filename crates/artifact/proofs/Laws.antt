@@ -1,24 +1,24 @@
 -- Artifacts read back to exactly what was written, and are written again exactly as they were read.
 use Rattle.std.proofs.Common.{◌≡◌, ℕ, ◌<◌, ◌≤◌, Bool, true, ltb, leb, List, [], ◌∷◌, ◌++◌, length, Some, Option, refl, ap, ◌∙◌, subst, arith}
-use Rattle.std.specs.List.{AllByRecursion}
+use Rattle.std.specs.List.{AllByRecursion, list_all}
 use Rattle.std.proofs.ByRecursion.{All-weaker}
 use Rattle.std.proofs.lemmas.Bool.{lt-ltb, ltb-true, le-leb, leb-true, and_parts}
 use Rattle.product.specs.Parts.{Parts, SoundRow, WithinRows, SoundReference, Within}
 use Rattle.product.specs.declared.row.Row.{Row}
 use Rattle.product.specs.declared.row.Reference.{Reference}
-use Rattle.codec.specs.Format.{next, every, listed, byte, pair, row, reference, interface, code}
+use Rattle.codec.specs.Format.{next, listed, byte, pair, row, reference, interface, code}
 use Rattle.codec.proofs.Laws.{Lawful, seq_back, last_back, seq_only, glue, some_first, some_rest, byte_lawful, pair_lawful, row_lawful, SmallReference, reference_lawful, listed_lawful, tested_lawful, lawful_as}
 use Rattle.artifact.specs.Art.{Art, WithinArt, source, imports, entries, references, product, artifact}
 
 -- a test of each element, as a fact of each
 module _ {X : Type 0} (t : X → Bool) (P : X → Type 0) (yes : (x : X) → P x → t x ≡ true) (fact : (x : X) → t x ≡ true → P x) where
-  every_yes : (xs : List X) → AllByRecursion P xs → every t xs ≡ true
-  every_yes [] h = refl
-  every_yes (x ∷ xs) h = simp (yes x h.0, every_yes xs h.1)
+  all_yes : (xs : List X) → AllByRecursion P xs → list_all t xs ≡ true
+  all_yes [] h = refl
+  all_yes (x ∷ xs) h = simp (yes x h.0, all_yes xs h.1)
 
-  every_fact : (xs : List X) → every t xs ≡ true → AllByRecursion P xs
-  every_fact [] h = tt
-  every_fact (x ∷ xs) h = let p = and_parts (t x) (every t xs) h in (fact x p.0, every_fact xs p.1)
+  all_fact : (xs : List X) → list_all t xs ≡ true → AllByRecursion P xs
+  all_fact [] h = tt
+  all_fact (x ∷ xs) h = let p = and_parts (t x) (list_all t xs) h in (fact x p.0, all_fact xs p.1)
 
 all_both : {X : Type 0} (P Q R : X → Type 0) → ((x : X) → P x → Q x → R x) → (xs : List X) → AllByRecursion P xs → AllByRecursion Q xs → AllByRecursion R xs
 all_both P Q R f [] h k = tt
@@ -46,10 +46,10 @@ EntriesWithin n es = (length es ≤ 12) × AllByRecursion (λ e. e < n) es
 entries_lawful : (n : ℕ) → n ≤ 384 → Lawful (entries n) (EntriesWithin n)
 entries_lawful n small =
     lawful_as (entries n)
-    (λ es. (every (λ e. ltb e n) es ≡ true) × ((length es ≤ 12) × AllByRecursion (λ e. e < 65536) es)) (EntriesWithin n)
-    (tested_lawful (listed byte 12 pair) (λ es. (length es ≤ 12) × AllByRecursion (λ e. e < 65536) es) (listed_lawful pair (λ k. k < 65536) pair_lawful byte (λ b. b < 256) byte_lawful 12 (λ k h. omega arith)) (every (λ e. ltb e n)))
-    (λ es h. (every_yes (λ e. ltb e n) (λ e. e < n) (λ e. lt-ltb e n) (λ e. ltb-true e n) es h.1, (h.0, All-weaker (λ e. e < n) (λ e. e < 65536) (λ e k. omega arith) es h.1)))
-    (λ es h. (h.1.0, every_fact (λ e. ltb e n) (λ e. e < n) (λ e. lt-ltb e n) (λ e. ltb-true e n) es h.0))
+    (λ es. (list_all (λ e. ltb e n) es ≡ true) × ((length es ≤ 12) × AllByRecursion (λ e. e < 65536) es)) (EntriesWithin n)
+    (tested_lawful (listed byte 12 pair) (λ es. (length es ≤ 12) × AllByRecursion (λ e. e < 65536) es) (listed_lawful pair (λ k. k < 65536) pair_lawful byte (λ b. b < 256) byte_lawful 12 (λ k h. omega arith)) (list_all (λ e. ltb e n)))
+    (λ es h. (all_yes (λ e. ltb e n) (λ e. e < n) (λ e. lt-ltb e n) (λ e. ltb-true e n) es h.1, (h.0, All-weaker (λ e. e < n) (λ e. e < 65536) (λ e k. omega arith) es h.1)))
+    (λ es h. (h.1.0, all_fact (λ e. ltb e n) (λ e. e < n) (λ e. lt-ltb e n) (λ e. ltb-true e n) es h.0))
 
 -- references of a unit with so many imports
 abbrev ReferencesWithin : ℕ → List Reference → Type 0
@@ -62,10 +62,10 @@ references_lawful n small =
     let yes : (r : Reference) → r.position ≤ n → leb r.position n ≡ true = λ r. le-leb r.position n in
     let fact : (r : Reference) → leb r.position n ≡ true → r.position ≤ n = λ r. leb-true r.position n in
     lawful_as (references n)
-    (λ rs. (every (λ r. leb r.position n) rs ≡ true) × ((length rs ≤ 32) × AllByRecursion SmallReference rs)) (ReferencesWithin n)
-    (tested_lawful (listed byte 32 reference) (λ rs. (length rs ≤ 32) × AllByRecursion SmallReference rs) (listed_lawful reference SmallReference reference_lawful byte (λ b. b < 256) byte_lawful 32 (λ k h. omega arith)) (every (λ r. leb r.position n)))
-    (λ rs h. (every_yes t P yes fact rs (All-weaker (SoundReference n) P (λ r s. s.0) rs h.1), (h.0, All-weaker (SoundReference n) SmallReference (λ r s. (let k : r.position ≤ n = s.0 in omega arith, s.1)) rs h.1)))
-    (λ rs h. (h.1.0, all_both P SmallReference (SoundReference n) (λ r p s. (p, s.1)) rs (every_fact t P yes fact rs h.0) h.1.1))
+    (λ rs. (list_all (λ r. leb r.position n) rs ≡ true) × ((length rs ≤ 32) × AllByRecursion SmallReference rs)) (ReferencesWithin n)
+    (tested_lawful (listed byte 32 reference) (λ rs. (length rs ≤ 32) × AllByRecursion SmallReference rs) (listed_lawful reference SmallReference reference_lawful byte (λ b. b < 256) byte_lawful 32 (λ k h. omega arith)) (list_all (λ r. leb r.position n)))
+    (λ rs h. (all_yes t P yes fact rs (All-weaker (SoundReference n) P (λ r s. s.0) rs h.1), (h.0, All-weaker (SoundReference n) SmallReference (λ r s. (let k : r.position ≤ n = s.0 in omega arith, s.1)) rs h.1)))
+    (λ rs h. (h.1.0, all_both P SmallReference (SoundReference n) (λ r p s. (p, s.1)) rs (all_fact t P yes fact rs h.0) h.1.1))
 
 -- the rest of a product, behind its interface, code and entries
 abbrev product_3 : ℕ → List Row → List ℕ → List ℕ → List ℕ → Option (Parts × List ℕ)

@@ -1,4 +1,3 @@
 pub mod Laws
 pub mod Rounds
 pub mod Sizes
-pub mod Slots

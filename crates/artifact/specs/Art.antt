@@ -1,12 +1,12 @@
 -- Artifacts as parts, and their one writing.
-use Rattle.std.specs.Prelude.{ℕ, ◌<◌, ◌≤◌, List, [], ◌∷◌, ◌++◌, map, length, take, Some, None, vec_items, Option, nat_le, nat_lt}
-use Rattle.std.specs.List.{AllByRecursion}
-use Rattle.bounded.specs.Held.{held}
+use Rattle.std.specs.Prelude.{ℕ, ◌<◌, ◌≤◌, List, [], ◌∷◌, ◌++◌, map, length, Some, Option, nat_le, nat_lt}
+use Rattle.std.specs.List.{AllByRecursion, list_all}
+use Rattle.bounded.specs.Held.{held, used}
 use Rattle.product.specs.Parts.{Parts, parts, no_parts, rows, Within, WithinRows}
 use Rattle.product.specs.declared.row.Row.{Row}
 use Rattle.product.specs.declared.row.Reference.{Reference}
 use Rattle.product.specs.declared.interface.Interface.{Interface}
-use Rattle.codec.specs.Format.{Format, next, listed, tested, every, byte, pair, reference, interface, code, whole}
+use Rattle.codec.specs.Format.{Format, next, listed, tested, byte, pair, reference, interface, code, whole}
 use Rattle.artifact.specs.declared.artifact.Artifact.{Artifact}
 
 -- an artifact's parts
@@ -21,7 +21,7 @@ imported is = map rows is
 
 -- what an artifact holds
 abbrev pub art : Artifact → Art
-art a = record { source = held a.source; imports = imported (take a.count (vec_items a.imports)); product = parts a.product }
+art a = record { source = held a.source; imports = imported (used a.imports); product = parts a.product }
 
 -- an artifact with nothing in it
 abbrev pub no_art : Art
@@ -41,11 +41,11 @@ imports = listed byte 4 interface
 
 -- entries: at most twelve places in code of so many bytes
 abbrev pub entries : ℕ → Format (List ℕ)
-entries n = tested (every (λ e. nat_lt e n)) (listed byte 12 pair)
+entries n = tested (list_all (λ e. nat_lt e n)) (listed byte 12 pair)
 
 -- references: at most 32, of a unit with so many imports
 abbrev pub references : ℕ → Format (List Reference)
-references n = tested (every (λ r. nat_le r.position n)) (listed byte 32 reference)
+references n = tested (list_all (λ r. nat_le r.position n)) (listed byte 32 reference)
 
 -- the product of a unit with so many imports: interface, code, entries, references
 abbrev pub product : ℕ → Format Parts
@@ -70,11 +70,6 @@ artifact_bytes a = artifact.put a
 -- the artifact that bytes are, where they are one
 abbrev pub read : List ℕ → Option Art
 read bs = whole (artifact.get bs)
-
--- what a reader of interfaces answered: how many of the slots it filled
-abbrev pub imports_read : Option ℕ → List Interface → List ℕ → Option (List (List Row) × List ℕ)
-imports_read None is bs = None
-imports_read (Some n) is bs = Some (imported (take n is), bs)
 
 -- an artifact within its limits
 pub record WithinArt (a : Art) : Type 0 where

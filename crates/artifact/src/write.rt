@@ -2,14 +2,13 @@
 ghost use Rattle.std.specs.Prelude.{◌≡◌, Some};
 ghost use Rattle.bounded.specs.Held.{held};
 ghost use Rattle.product.specs.Parts.{parts};
-ghost use Rattle.codec.specs.Adding.{Adds};
 ghost use Rattle.codec.specs.Format.{each, interface};
 ghost use Rattle.artifact.specs.Art.{art, imported, product, artifact_bytes, read, WithinArt};
 ghost use Rattle.artifact.specs.Round.{RoundTrip};
 
 use crate::artifact::Artifact;
 use bounded::Bounded;
-use codec::{append_long, append_short, put_byte};
+use codec::{Count, Sink};
 use product::{Interface, Product};
 
 // The longest artifact has 1,896 bytes; and what holds of reading and writing.
@@ -19,35 +18,42 @@ pub fn longest() -> usize
     2 + 512 + 1 + 4 * (1 + 12 * 15) + 1 + 12 * 15 + 2 + 384 + 1 + 12 * 2 + 1 + 32 * 2
 }
 
-// Interfaces at the end of a record, where they have room.
-fn append_imports(slots: &[Interface], out: &mut Bounded<u8, 1896>)
-    ensures { Adds (held out.old) (each interface.put (imported slots.now)) (held out.new) }
+// Puts interfaces, one behind the other, where they have room.
+fn append_imports<S: Sink>(imports: &[Interface], out: &mut S)
+    ensures { S.Takes out.old (each interface.put (imported imports.now)) out.new }
 {
-    for slot in slots {
-        append_short(&slot.list, out);
+    for interface in imports {
+        u8::append_section(&interface.list, out);
     }
 }
 
-// A product at the end of a record, where it has room.
-fn append_product(from: &Product, out: &mut Bounded<u8, 1896>)
-    ensures { Adds (held out.old) ((product 0).put (parts from.now)) (held out.new) }
+// Puts a product, where it has room.
+fn append_product<S: Sink>(from: &Product, out: &mut S)
+    ensures { S.Takes out.old ((product 0).put (parts from.now)) out.new }
 {
-    append_short(&from.interface.list, out);
-    append_long(&from.code, out);
-    append_short(&from.entries, out);
-    append_short(&from.references, out);
+    u8::append_section(&from.interface.list, out);
+    u16::append_section(&from.code, out);
+    u8::append_section(&from.entries, out);
+    u8::append_section(&from.references, out);
 }
 
 impl Artifact {
+    // Puts the parts, where they have room.
+    fn append_parts<S: Sink>(&self, out: &mut S)
+        ensures { S.Takes out.old (artifact_bytes (art self.now)) out.new }
+    {
+        u16::append_section(&self.source, out);
+        u8::append_count(self.imports.len(), out);
+        append_imports(self.imports(), out);
+        append_product(&self.product, out);
+    }
+
     // The bytes of the artifact, in place of what is held; where the artifact is within its limits, they read back to it.
     pub fn write(&self, out: &mut Bounded<u8, 1896>)
         ensures bytes { held out.new ≡ artifact_bytes (art self.now) }
         ensures back { WithinArt (art self.now) → read (held out.new) ≡ Some (art self.now) }
     {
         out.clear();
-        append_long(&self.source, out);
-        put_byte(self.count as u8, out);
-        append_imports(self.imports(), out);
-        append_product(&self.product, out);
+        self.append_parts(out);
     }
 }

@@ -87,7 +87,7 @@ impl Desk {
         self.fresh.clear();
         let _ = self.fresh.source.extend(unit.source());
         for name in unit.imports() {
-            self.fresh.add_import(done.interface(*name));
+            let _ = self.fresh.add_import(done.interface(*name));
         }
     }
 

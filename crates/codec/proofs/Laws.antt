@@ -1,5 +1,5 @@
 -- Formats that read back to exactly what was written, and write again exactly what was read.
-use Rattle.std.proofs.Common.{◌≡◌, ℕ, zero, suc, ◌+◌, ◌*◌, ◌/◌, ◌%◌, ◌^◌, ◌<◌, ◌≤◌, Bool, true, false, cond, eqb, ltb, leb, List, [], ◌∷◌, ◌++◌, length, take, drop, ℤ, Some, None, Option, sym, refl, ap, ◌∙◌, subst, append_assoc, append-nil, arith, take-append-drop, w32, SFits, to_z, of_z}
+use Rattle.std.proofs.Common.{◌≡◌, ℕ, zero, suc, ◌+◌, ◌*◌, ◌/◌, ◌%◌, ◌^◌, ◌<◌, ◌≤◌, Bool, true, false, cond, eqb, ltb, leb, List, [], ◌∷◌, ◌++◌, length, take, drop, ℤ, Some, None, Option, Ok, Err, Result, OnOk, sym, refl, ap, ◌∙◌, subst, append_assoc, append-nil, arith, take-append-drop, w32, SFits, to_z, of_z}
 use mir.Facts.{sfits_to_z, Fits-of_z}
 use Rattle.std.specs.List.{AllByRecursion}
 use Rattle.std.proofs.lemmas.Bool.{lt-ltb, ltb-true, le-leb, leb-true, eqb-true}
@@ -11,7 +11,7 @@ use Rattle.names.proofs.Spelled.{padded_eight}
 use Rattle.product.specs.Parts.{SoundRow}
 use Rattle.product.specs.declared.row.Row.{Row}
 use Rattle.product.specs.declared.row.Reference.{Reference}
-use Rattle.codec.specs.Format.{Format, next, passing, get_byte, byte, pair, value, name_of, name, row, reference, many, many_within, each, listed, tested, whole}
+use Rattle.codec.specs.Format.{Format, next, passing, get_byte, byte, pair, value, name_of, name, row, reference, many, many_within, each, listed, tested, whole, got}
 use Rattle.codec.proofs.Named.{name_of_yes}
 
 -- a format of the values that P holds of
@@ -23,7 +23,7 @@ pub record Lawful {X : Type 0} (f : Format X) (P : X → Type 0) : Type 0 where
 module _ {X Y : Type 0} where
   pub next_some : (o : Option (X × List ℕ)) (k : X → List ℕ → Option (Y × List ℕ)) (y : Y) (rest : List ℕ) → next o k ≡ Some (y, rest) →
       (x : X) × (cs : List ℕ) × (o ≡ Some (x, cs)) × (k x cs ≡ Some (y, rest))
-  next_some None k y rest e = let z : ◌≡◌ {A = ℕ} 0 1 = cc in absurd (omega arith)
+  next_some None k y rest e = cc
   next_some (Some p) k y rest e = (p.0, p.1, refl, e)
 
   module _ (f : Format X) (P : X → Type 0) (law : Lawful f P) (k : X → List ℕ → Option (Y × List ℕ)) where
@@ -58,10 +58,10 @@ module _ {X : Type 0} where
 
   pub passing_some : (t : Bool) (x y : X) (bs cs : List ℕ) → passing t x bs ≡ Some (y, cs) → (t ≡ true) × (x ≡ y) × (bs ≡ cs)
   passing_some true x y bs cs e = (refl, some_first x y bs cs e, some_rest x y bs cs e)
-  passing_some false x y bs cs e = let z : ◌≡◌ {A = ℕ} 0 1 = cc in absurd (omega arith)
+  passing_some false x y bs cs e = cc
 
 byte_only : (bs : List ℕ) (x : ℕ) (rest : List ℕ) → get_byte bs ≡ Some (x, rest) → (bs ≡ x ∷ rest) × (x < 256)
-byte_only [] x rest e = let z : ◌≡◌ {A = ℕ} 0 1 = cc in absurd (omega arith)
+byte_only [] x rest e = cc
 byte_only (b ∷ bs) x rest e =
     let p = passing_some (ltb b 256) b x bs rest e in
     (λ i. p.1 i ∷ p.2 i, subst (λ n. n < 256) p.1 (ltb-true b 256 p.0))
@@ -140,7 +140,7 @@ name_back n rest =
 name_of_only : (bs : List ℕ) (t : Bool) (e : padded_name bs ≡ t) (cs : List ℕ) (n : Name) (rest : List ℕ) → name_of bs t e cs ≡ Some (n, rest) → (bs ≡ n.bytes) × (cs ≡ rest)
 name_of_only bs true e cs n rest h =
     (ap (λ m. m.bytes) (some_first (record { bytes = bs; valid = e }) n cs rest h), some_rest (record { bytes = bs; valid = e }) n cs rest h)
-name_of_only bs false e cs n rest h = let z : ◌≡◌ {A = ℕ} 0 1 = cc in absurd (omega arith)
+name_of_only bs false e cs n rest h = cc
 
 name_only : (bs : List ℕ) (n : Name) (rest : List ℕ) → name.get bs ≡ Some (n, rest) → (bs ≡ name.put n ++ rest) × Unit {0}
 name_only bs n rest e =
@@ -242,7 +242,7 @@ module _ {X : Type 0} (f : Format X) (P : X → Type 0) (law : Lawful f P) where
 
     within_some : (t : Bool) (o : Option (List X × List ℕ)) (xs : List X) (rest : List ℕ) → cond t o None ≡ Some (xs, rest) → (t ≡ true) × (o ≡ Some (xs, rest))
     within_some true o xs rest e = (refl, e)
-    within_some false o xs rest e = let z : ◌≡◌ {A = ℕ} 0 1 = cc in absurd (omega arith)
+    within_some false o xs rest e = cc
 
     listed_only : (bs : List ℕ) (xs : List X) (rest : List ℕ) → (listed count limit f).get bs ≡ Some (xs, rest) → (bs ≡ (listed count limit f).put xs ++ rest) × ((length xs ≤ limit) × AllByRecursion P xs)
     listed_only bs xs rest e =
@@ -281,10 +281,10 @@ module _ {X : Type 0} (f : Format X) (P : X → Type 0) (law : Lawful f P) where
 
   at_end : (y x : X) (cs : List ℕ) (t : Bool) → eqb (length cs) 0 ≡ t → cond t (Some y) None ≡ Some x → ◌≡◌ {A = Option (X × List ℕ)} (Some (y, cs)) (Some (x, []))
   at_end y x cs true h e = let same : y ≡ x = cc in λ i. Some (same i, none_left cs (eqb-true (length cs) 0 h) i)
-  at_end y x cs false h e = let z : ◌≡◌ {A = ℕ} 0 1 = cc in absurd (omega arith)
+  at_end y x cs false h e = cc
 
   whole_some : (o : Option (X × List ℕ)) (x : X) → whole o ≡ Some x → ◌≡◌ {A = Option (X × List ℕ)} o (Some (x, []))
-  whole_some None x e = let z : ◌≡◌ {A = ℕ} 0 1 = cc in absurd (omega arith)
+  whole_some None x e = cc
   whole_some (Some p) x e = at_end p.0 x p.1 (eqb (length p.1) 0) refl e
 
   pub whole_back : (x : X) → P x → whole (f.get (f.put x)) ≡ Some x
@@ -298,3 +298,9 @@ module _ {X : Type 0} (f : Format X) (P : X → Type 0) (law : Lawful f P) where
   -- one writing of each value
   pub one_writing : (x y : X) → P x → P y → f.put x ≡ f.put y → x ≡ y
   one_writing x y h k e = let s : Some x ≡ Some y = sym (whole_back x h) ∙ ap (λ bs. whole (f.get bs)) e ∙ whole_back y k in cc
+
+-- what a reader of whole files answers, where what is read writes back to the bytes and keeps the limits
+pub backed : {X Y : Type 0} (read : List ℕ → Option X) (put : X → List ℕ) (P : X → Type 0) → ((bs : List ℕ) (x : X) → read bs ≡ Some x → put x ≡ bs) → ((bs : List ℕ) (x : X) → read bs ≡ Some x → P x) →
+    (r : Result (Unit {0}) Y) (x : X) (bs : List ℕ) → got r x ≡ read bs → OnOk r ((put x ≡ bs) × P x)
+backed read put P back within (Ok u) x bs e = (back bs x (sym e), within bs x (sym e))
+backed read put P back within (Err y) x bs e = tt

@@ -1,7 +1,8 @@
 -- A loop that reads so many elements, one a turn: what it has, put before what the rest gives, is what all give.
-use Rattle.std.proofs.Common.{◌≡◌, ℕ, suc, ◌+◌, ◌-◌, ◌<◌, ◌≤◌, Bool, true, false, cond, List, [], ◌∷◌, ◌++◌, Some, None, Option, sym, refl, ap, ◌∙◌, append_assoc, append-nil, arith}
+use Rattle.std.proofs.Common.{◌≡◌, ℕ, suc, ◌+◌, ◌-◌, ◌<◌, ◌≤◌, Bool, cond, List, [], ◌∷◌, ◌++◌, map, Some, None, Option, Ok, Err, Result, IsErr, is_ok, sym, refl, ap, ◌∙◌, append_assoc, append-nil, arith, length, length-append}
 use native.Mathlib.Nat.{sub-zero}
-use Rattle.std.proofs.lemmas.Bool.{le-leb, lt-leb}
+use Rattle.std.proofs.lemmas.List.{map_push}
+use Rattle.std.proofs.lemmas.Bool.{le-leb, lt-leb, true≢false}
 use Rattle.codec.specs.Format.{next, passing, many, many_within, filled}
 
 -- elements before those that were read
@@ -10,6 +11,10 @@ onto acc None = None
 onto acc (Some p) = Some (acc ++ p.0, p.1)
 
 module _ {X : Type 0} where
+  -- how many there are with one more at the end
+  pub one_more : (xs ys : List X) (x : X) (i : ℕ) → ys ≡ xs ++ x ∷ [] → length xs ≡ i → length ys ≡ i + 1
+  one_more xs ys x i e h = ap length e ∙ length-append xs (x ∷ []) ∙ ap (λ n. n + 1) h
+
   pub onto_none : (o : Option (List X × List ℕ)) → onto [] o ≡ o
   onto_none None = refl
   onto_none (Some p) = refl
@@ -41,6 +46,14 @@ module _ {X : Type 0} where
     pub many_stops : None ≡ get bs → None ≡ R
     many_stops e = ap (λ o. onto acc (next o (λ y ds. next (many (n - (i + 1)) get ds) (λ xs es. Some (y ∷ xs, es))))) e ∙ turn
 
+  -- the same, where what the turn adds is seen by f
+  pub many_adds : {B : Type 0} (f : B → X) (n i : ℕ) (get : List ℕ → Option (X × List ℕ)) (bs : List ℕ) (us now : List B) (R : Option (List X × List ℕ)) (b : B) (cs : List ℕ) →
+      i < n → onto (map f us) (many (n - i) get bs) ≡ R → now ≡ us ++ b ∷ [] → Some (f b, cs) ≡ get bs → onto (map f now) (many (n - (i + 1)) get cs) ≡ R
+  many_adds f n i get bs us now R b cs h inv e read =
+      ap (λ zs. onto (map f zs) (many (n - (i + 1)) get cs)) e
+      ∙ ap (λ xs. onto xs (many (n - (i + 1)) get cs)) (map_push f us b)
+      ∙ many_goes n i get bs (map f us) R h inv (f b) cs read
+
   pub many-ends : (n i : ℕ) (get : List ℕ → Option (X × List ℕ)) (bs : List ℕ) (acc : List X) (R : Option (List X × List ℕ)) → n ≤ i →
       onto acc (many (n - i) get bs) ≡ R → Some (acc, bs) ≡ R
   many-ends n i get bs acc R h inv =
@@ -48,16 +61,11 @@ module _ {X : Type 0} where
       sym (ap (λ k. onto acc (many k get bs)) e ∙ ap (λ zs. Some (zs, bs)) (append-nil acc)) ∙ inv
 
 -- a test of what was read
-module _ {X : Type 0} (t : X → Bool) (o : Option (X × List ℕ)) (x : X) (bs : List ℕ) (read : Some (x, bs) ≡ o) where
-  after : (b : Bool) → b ≡ t x → passing b x bs ≡ next o (λ y cs. passing (t y) y cs)
-  after b e = ap (λ u. passing u x bs) e ∙ ap (λ p. next p (λ y cs. passing (t y) y cs)) read
+pub tested_as : {X Y : Type 0} (t : X → Bool) (o : Option (X × List ℕ)) (x : X) (bs : List ℕ) (r : Result (Unit {0}) Y) → Some (x, bs) ≡ o → is_ok r ≡ t x → filled r x bs ≡ next o (λ y cs. passing (t y) y cs)
+tested_as t o x bs (Ok u) read e = ap (λ b. passing b x bs) e ∙ ap (λ p. next p (λ y cs. passing (t y) y cs)) read
+tested_as t o x bs (Err y) read e = ap (λ b. passing b x bs) e ∙ ap (λ p. next p (λ y cs. passing (t y) y cs)) read
 
-  pub tested_yes : true ≡ t x → Some (x, bs) ≡ next o (λ y cs. passing (t y) y cs)
-  tested_yes e = after true e
-
-  pub tested_no : false ≡ t x → None ≡ next o (λ y cs. passing (t y) y cs)
-  tested_no e = after false e
-
--- a reader that stopped, whatever it holds
-pub refused : {X : Type 0} (r : Option (Unit {0})) (x : X) (bs : List ℕ) (R : Option (X × List ℕ)) → r ≡ None → None ≡ R → filled r x bs ≡ R
-refused r x bs R e f = ap (λ o. filled o x bs) e ∙ f
+-- a reader that refused, whatever it holds
+pub refused : {X Y : Type 0} (r : Result (Unit {0}) Y) (x : X) (bs : List ℕ) (R : Option (X × List ℕ)) → IsErr r → None ≡ R → filled r x bs ≡ R
+refused (Ok u) x bs R h e = absurd (true≢false (sym h))
+refused (Err y) x bs R h e = e

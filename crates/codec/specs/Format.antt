@@ -1,5 +1,5 @@
 -- How values are written as bytes, and read back.
-use Rattle.std.specs.Prelude.{◌≡◌, ℕ, zero, suc, ◌+◌, ◌*◌, ◌/◌, ◌%◌, Bool, true, false, cond, ◌&&◌, List, [], ◌∷◌, ◌++◌, length, take, drop, ℤ, Some, None, Ok, Err, Option, Result, ◌==◌, nat_le, nat_lt, refl}
+use Rattle.std.specs.Prelude.{◌≡◌, ℕ, zero, suc, ◌+◌, ◌*◌, ◌/◌, ◌%◌, Bool, true, false, cond, List, [], ◌∷◌, ◌++◌, length, take, drop, ℤ, Some, None, Ok, Err, Option, Result, ◌==◌, nat_le, nat_lt, refl}
 use Rattle.std.specs.Int.{w32}
 use Rattle.std.proofs.Common.{of_z, to_z}
 use Rattle.names.specs.Spelling.{padded_name}
@@ -18,9 +18,13 @@ abbrev pub left : Input → List ℕ
 left i = i.rest.now
 
 -- what a reader answered, beside what it left
-abbrev pub read_as : {X : Type 0} → Option X → List ℕ → Option (X × List ℕ)
-read_as None bs = None
-read_as (Some x) bs = Some (x, bs)
+abbrev pub read_as : {X Y : Type 0} → Result X Y → List ℕ → Option (X × List ℕ)
+read_as (Ok x) bs = Some (x, bs)
+read_as (Err e) bs = None
+
+-- the first so many bytes, and those behind them
+abbrev pub first : ℕ → List ℕ → Option (List ℕ × List ℕ)
+first n bs = cond (nat_le n (length bs)) (Some (take n bs, drop n bs)) None
 
 -- first one thing, then another with what is left
 abbrev pub next : {X Y : Type 0} → Option (X × List ℕ) → (X → List ℕ → Option (Y × List ℕ)) → Option (Y × List ℕ)
@@ -74,9 +78,9 @@ abbrev pub many_within : {X : Type 0} → ℕ → ℕ → (List ℕ → Option (
 many_within limit n get bs = cond (nat_le n limit) (many n get bs) None
 
 -- what a reader filled, beside what it left
-abbrev pub filled : {X : Type 0} → Option (Unit {0}) → X → List ℕ → Option (X × List ℕ)
-filled None x bs = None
-filled (Some u) x bs = Some (x, bs)
+abbrev pub filled : {X Y : Type 0} → Result (Unit {0}) Y → X → List ℕ → Option (X × List ℕ)
+filled (Ok u) x bs = Some (x, bs)
+filled (Err e) x bs = None
 
 -- the bytes of each element, one behind the other
 abbrev pub each : {X : Type 0} → (X → List ℕ) → List X → List ℕ
@@ -90,11 +94,6 @@ listed count limit f = record { put = λ xs. count.put (length xs) ++ each f.put
 -- only what passes a test is read
 abbrev pub tested : {X : Type 0} → (X → Bool) → Format X → Format X
 tested t f = record { put = f.put; get = λ bs. next (f.get bs) (λ x cs. passing (t x) x cs) }
-
--- whether each element passes
-abbrev pub every : {X : Type 0} → (X → Bool) → List X → Bool
-every t [] = true
-every t (x ∷ xs) = t x && every t xs
 
 -- an interface: at most twelve rows behind a count of one byte
 abbrev pub interface : Format (List Row)

@@ -1,58 +1,70 @@
-// The elements of sections: bytes, pairs of bytes, names, rows and references.
-ghost use Rattle.codec.specs.Format.{byte, pair, name, row, reference};
+// The elements of sections: bytes, pairs of bytes, numbers with a sign, names, rows and references.
+ghost use Rattle.codec.specs.Format.{byte, pair, value, name, row, reference};
 
 use crate::field::Field;
 use crate::input::Input;
-use crate::output::{put_byte, put_name, put_pair, put_value};
-use bounded::Bounded;
+use crate::malformed::Malformed;
+use crate::sink::Sink;
 use names::Name;
 use product::{Reference, Row};
 
 impl Field for u8 {
     ghost format = { byte };
 
-    fn read(input: &mut Input<'_>) -> Option<u8> {
+    fn read(input: &mut Input<'_>) -> Result<u8, Malformed> {
         input.byte()
     }
 
-    fn append(&self, out: &mut Bounded<u8, 1896>) {
-        put_byte(*self, out);
+    fn append<S: Sink>(&self, out: &mut S) {
+        out.put(&[*self]);
     }
 }
 
 impl Field for u16 {
     ghost format = { pair };
 
-    fn read(input: &mut Input<'_>) -> Option<u16> {
+    fn read(input: &mut Input<'_>) -> Result<u16, Malformed> {
         input.pair()
     }
 
-    fn append(&self, out: &mut Bounded<u8, 1896>) {
-        put_pair(*self, out);
+    fn append<S: Sink>(&self, out: &mut S) {
+        out.put(&u16::to_be_bytes(*self));
+    }
+}
+
+impl Field for i32 {
+    ghost format = { value };
+
+    fn read(input: &mut Input<'_>) -> Result<i32, Malformed> {
+        input.value()
+    }
+
+    fn append<S: Sink>(&self, out: &mut S) {
+        out.put(&i32::to_be_bytes(*self));
     }
 }
 
 impl Field for Name {
     ghost format = { name };
 
-    fn read(input: &mut Input<'_>) -> Option<Name> {
+    fn read(input: &mut Input<'_>) -> Result<Name, Malformed> {
         input.name()
     }
 
-    fn append(&self, out: &mut Bounded<u8, 1896>) {
-        put_name(*self, out);
+    fn append<S: Sink>(&self, out: &mut S) {
+        out.put(&self.bytes());
     }
 }
 
 impl Field for Row {
     ghost format = { row };
 
-    fn read(input: &mut Input<'_>) -> Option<Row> {
+    fn read(input: &mut Input<'_>) -> Result<Row, Malformed> {
         let name = input.name()?;
         let kind = input.byte()?;
         let value = input.value()?;
         let line = input.pair()?;
-        Some(Row {
+        Ok(Row {
             name,
             kind,
             value,
@@ -60,25 +72,25 @@ impl Field for Row {
         })
     }
 
-    fn append(&self, out: &mut Bounded<u8, 1896>) {
-        put_name(self.name, out);
-        put_byte(self.kind, out);
-        put_value(self.value, out);
-        put_pair(self.line, out);
+    fn append<S: Sink>(&self, out: &mut S) {
+        self.name.append(out);
+        self.kind.append(out);
+        self.value.append(out);
+        self.line.append(out);
     }
 }
 
 impl Field for Reference {
     ghost format = { reference };
 
-    fn read(input: &mut Input<'_>) -> Option<Reference> {
+    fn read(input: &mut Input<'_>) -> Result<Reference, Malformed> {
         let position = input.byte()?;
         let entry = input.byte()?;
-        Some(Reference { position, entry })
+        Ok(Reference { position, entry })
     }
 
-    fn append(&self, out: &mut Bounded<u8, 1896>) {
-        put_byte(self.position, out);
-        put_byte(self.entry, out);
+    fn append<S: Sink>(&self, out: &mut S) {
+        self.position.append(out);
+        self.entry.append(out);
     }
 }

@@ -8,7 +8,7 @@ fn is_formula(code: &[u8]) -> bool {
         if input.rest.is_empty() {
             return true;
         }
-        if mnemonics::next(&mut input).is_none() {
+        if mnemonics::next(&mut input).is_err() {
             return false;
         }
     }
@@ -24,8 +24,8 @@ pub fn print(rt: &HostRuntime, code: &[u8]) -> anyhow::Result<()> {
     for _ in 0..code.len() {
         let place = code.len().saturating_sub(input.rest.len());
         match mnemonics::next(&mut input) {
-            Some(instruction) => println!(rt; "  {place:4}  {instruction}")?,
-            None => break,
+            Ok(instruction) => println!(rt; "  {place:4}  {instruction}")?,
+            Err(_) => break,
         }
     }
     Ok(())

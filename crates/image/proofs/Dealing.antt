@@ -1,7 +1,8 @@
 -- Rows of one unit more.
-use Rattle.std.proofs.Common.{◌≡◌, ℕ, suc, ◌+◌, ◌<◌, List, [], ◌∷◌, ◌++◌, length, get_or, take, sym, refl, ap, ◌∙◌, append_assoc, append-nil, arith, length-append, length-take}
-use Rattle.std.proofs.lemmas.List.{take_more}
-use Rattle.codec.specs.Format.{each, byte}
+use Rattle.std.proofs.Common.{◌≡◌, ℕ, suc, ◌+◌, ◌<◌, List, [], ◌∷◌, ◌++◌, map, length, get_or, take, sym, refl, ap, ◌∙◌, append_assoc, append-nil, arith, length-append, length-take}
+use lib.ListN.{length-map}
+use Rattle.std.proofs.lemmas.List.{map_more}
+use Rattle.codec.specs.Format.{each}
 use Rattle.image.specs.Dealt.{flat, deal}
 
 module _ {X : Type 0} (put : X → List ℕ) where
@@ -11,19 +12,20 @@ module _ {X : Type 0} (put : X → List ℕ) where
       ap (λ bs. each (λ x. u ∷ put x) ys ++ bs) (deal_push (suc u) yss xs ∙ ap (λ v. deal put (suc u) yss ++ each (λ x. v ∷ put x) xs) (omega arith))
       ∙ sym (append_assoc (each (λ x. u ∷ put x) ys) (deal put (suc u) yss) (each (λ x. (u + suc (length yss)) ∷ put x) xs))
 
-  pub deal-more : (xss : List (List X)) (k : ℕ) → k < length xss → deal put 0 (take k xss) ++ each (λ x. k ∷ put x) (get_or xss k []) ≡ deal put 0 (take (k + 1) xss)
-  deal-more xss k h =
-      let l : k ≡ 0 + length (take k xss) = omega (arith, length-take k xss) in
-      ap (λ v. deal put 0 (take k xss) ++ each (λ x. v ∷ put x) (get_or xss k [])) l
-      ∙ sym (ap (deal put 0) (take_more xss k [] h) ∙ deal_push 0 (take k xss) (get_or xss k []))
-
 flat_push : {X : Type 0} (yss : List (List X)) (xs : List X) → flat (yss ++ xs ∷ []) ≡ flat yss ++ xs
 flat_push [] xs = append-nil xs
 flat_push (ys ∷ yss) xs = ap (λ zs. ys ++ zs) (flat_push yss xs) ∙ sym (append_assoc ys (flat yss) xs)
 
-pub flat-more : {X : Type 0} (xss : List (List X)) (k : ℕ) → k < length xss → length (flat (take k xss)) + length (get_or xss k []) ≡ length (flat (take (k + 1) xss))
-flat-more xss k h = sym (ap (λ yss. length (flat yss)) (take_more xss k [] h) ∙ ap length (flat_push (take k xss) (get_or xss k [])) ∙ length-append (flat (take k xss)) (get_or xss k []))
+-- how many rows there are with one list more
+pub flat-more : {X B : Type 0} (f : B → List X) (bs : List B) (k : ℕ) (b : B) → k < length bs → b ≡ get_or bs k b → length (flat (map f (take k bs))) + length (f b) ≡ length (flat (map f (take (k + 1) bs)))
+flat-more f bs k b h e =
+    ap (λ c. length (flat (map f (take k bs))) + length (f c)) e
+    ∙ sym (ap (λ yss. length (flat yss)) (map_more f bs k b h) ∙ ap length (flat_push (map f (take k bs)) (f (get_or bs k b))) ∙ length-append (flat (map f (take k bs))) (f (get_or bs k b)))
 
-pub each_bytes : (bs : List ℕ) → bs ≡ each byte.put bs
-each_bytes [] = refl
-each_bytes (b ∷ bs) = ap (λ cs. b ∷ cs) (each_bytes bs)
+-- the bytes of all rows with one list more
+pub deal-list : {X B : Type 0} (put : X → List ℕ) (f : B → List X) (bs : List B) (k : ℕ) (b : B) → k < length bs → b ≡ get_or bs k b →
+    deal put 0 (map f (take k bs)) ++ each (λ x. k ∷ put x) (f b) ≡ deal put 0 (map f (take (k + 1) bs))
+deal-list put f bs k b h e =
+    ap (λ c. deal put 0 (map f (take k bs)) ++ each (λ x. k ∷ put x) (f c)) e
+    ∙ ap (λ v. deal put 0 (map f (take k bs)) ++ each (λ x. v ∷ put x) (f (get_or bs k b))) (let l : k ≡ 0 + length (map f (take k bs)) = omega (arith, length-map (take k bs) f, length-take k bs) in l)
+    ∙ sym (ap (deal put 0) (map_more f bs k b h) ∙ deal_push put 0 (map f (take k bs)) (f (get_or bs k b)))

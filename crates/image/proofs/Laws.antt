@@ -14,7 +14,7 @@ use Rattle.image.proofs.Runs.{run_other}
 module _ {Y : Type 0} where
   passed : (t : Bool) (o : Option Y) (y : Y) → cond t o None ≡ Some y → (t ≡ true) × (o ≡ Some y)
   passed true o y e = (refl, e)
-  passed false o y e = let z : ◌≡◌ {A = ℕ} 0 1 = cc in absurd (omega arith)
+  passed false o y e = cc
 
 target_1 : ℕ → List ℕ → Option (Target × List ℕ)
 target_1 u cs = next (byte.get cs) (λ e ds. Some (record { unit = u; entry = e }, ds))
@@ -110,7 +110,7 @@ module _ {X : Type 0} (f : Format X) (P : X → Type 0) (law : Lawful f P) where
         )
 
     full : (t : Bool) (n : ℕ) (bs : List ℕ) (xs : List X) (m : ℕ) (rest : List ℕ) → ◌≡◌ {A = Option ((List X × ℕ) × List ℕ)} (cond t None (Some (([], n), bs))) (Some ((xs, m), rest)) → Read n zero bs xs m rest
-    full true n bs xs m rest e = let z : ◌≡◌ {A = ℕ} 0 1 = cc in absurd (omega arith)
+    full true n bs xs m rest e = cc
     full false n bs xs m rest e = stayed n zero bs xs m rest e
 
     split : (t : Bool) (n room b : ℕ) (bs : List ℕ) (xs : List X) (m : ℕ) (rest : List ℕ) →

@@ -35,9 +35,8 @@ four : (a b c d : List ℕ) → length (a ++ (b ++ (c ++ d))) ≡ length a + (le
 four a b c d = simp length-append
 
 -- how long an image is
-pub image_long : (u : Units) → length u.codes ≡ length u.names →
-    length (image_bytes u) ≡ 6 + 10 * length u.names + length (flat u.codes) + 3 * length (flat u.entries) + 3 * length (flat u.references)
-image_long u h =
+pub image_long : (u : Units) → length (image_bytes u) ≡ 6 + 8 * length u.names + 2 * length u.codes + length (flat u.codes) + 3 * length (flat u.entries) + 3 * length (flat u.references)
+image_long u =
     let n = length u.names in
     let a = names.put u.names in
     let c = (exactly n code).put u.codes in
@@ -70,7 +69,7 @@ same_units (u ∷ us) (v ∷ vs) a b c d =
 
 longest : (u : Units) → WithinUnits u → length (image_bytes u) ≤ 12630
 longest u h =
-    omega (arith, image_long u h.coded, h.few, h.coded, h.entered, h.referred, flat-within (λ b. b < 256) 384 u.codes h.codes, flat-within (λ e. e < 65536) 12 u.entries h.entries, flat-within SmallTarget 32 u.references h.references)
+    omega (arith, image_long u, h.few, h.coded, h.entered, h.referred, flat-within (λ b. b < 256) 384 u.codes h.codes, flat-within (λ e. e < 65536) 12 u.entries h.entries, flat-within SmallTarget 32 u.references h.references)
 
 pub round_trip : RoundTrip
 round_trip =

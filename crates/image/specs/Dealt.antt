@@ -1,12 +1,12 @@
 -- Rows of several units in one section, each behind the position of its unit.
-use Rattle.std.specs.Prelude.{ℕ, zero, suc, cond, List, [], ◌∷◌, ◌++◌, map, length, take, Some, None, vec_items, Option, ◌==◌}
-use Rattle.bounded.specs.Held.{held}
+use Rattle.std.specs.Prelude.{ℕ, zero, suc, cond, List, [], ◌∷◌, ◌++◌, map, length, Some, None, Ok, Err, Option, Result, ◌==◌}
+use Rattle.bounded.specs.Held.{held, used}
 use Rattle.codec.specs.Format.{Format, next, each, pair}
 use Rattle.image.specs.declared.column.Column.{Column}
 
--- the lists of the first so many units
-abbrev pub lists : {X : Type 0} {n : ℕ} → ℕ → Column X n → List (List X)
-lists k c = map held (take k (vec_items c.lists))
+-- the lists of all units
+abbrev pub lists : {X : Type 0} {n : ℕ} → Column X n → List (List X)
+lists c = map held (used c.lists)
 
 -- all rows, unit after unit
 abbrev pub flat : {X : Type 0} → List (List X) → List X
@@ -36,6 +36,6 @@ abbrev pub dealt : {X : Type 0} → ℕ → ℕ → Format X → Format (List (L
 dealt room units f = record { put = λ xss. pair.put (length (flat xss)) ++ deal f.put zero xss; get = λ bs. next (pair.get bs) (λ rows cs. undeal f.get room zero units rows cs) }
 
 -- what a reader of one unit's rows answered
-abbrev pub run_read : {X : Type 0} → Option ℕ → List X → List ℕ → Option ((List X × ℕ) × List ℕ)
-run_read None xs bs = None
-run_read (Some rows) xs bs = Some ((xs, rows), bs)
+abbrev pub run_read : {X Y : Type 0} → Result ℕ Y → List X → List ℕ → Option ((List X × ℕ) × List ℕ)
+run_read (Ok rows) xs bs = Some ((xs, rows), bs)
+run_read (Err e) xs bs = None

@@ -1,10 +1,10 @@
 -- Images as parts, and their one writing.
-use Rattle.std.specs.Prelude.{◌≡◌, ℕ, ◌<◌, ◌≤◌, Bool, true, false, cond, not, ◌&&◌, ◌||◌, ltb, List, [], ◌∷◌, ◌++◌, length, Some, None, Option, ◌==◌, nat_lt, slice_index_or}
-use Rattle.std.specs.List.{AllByRecursion}
+use Rattle.std.specs.Prelude.{◌≡◌, ℕ, ◌<◌, ◌≤◌, Bool, true, false, cond, not, ◌&&◌, List, [], ◌∷◌, ◌++◌, length, Some, None, Option, ◌==◌, nat_lt, slice_index_or}
+use Rattle.std.specs.List.{AllByRecursion, list_all, list_any, zip}
 use Rattle.std.specs.Str.{bytes_eq}
 use Rattle.bounded.specs.Held.{held}
 use Rattle.names.specs.declared.name.Name.{Name}
-use Rattle.codec.specs.Format.{Format, next, many, each, listed, tested, every, byte, pair, name, code, whole}
+use Rattle.codec.specs.Format.{Format, next, many, each, listed, tested, byte, pair, name, code, whole}
 use Rattle.image.specs.Dealt.{lists, dealt}
 use Rattle.image.specs.declared.target.Target.{Target}
 use Rattle.image.specs.declared.image.Image.{Image}
@@ -21,9 +21,9 @@ abbrev pub units : Image → Units
 units i =
     record {
       names = held i.names;
-      codes = lists (length (held i.names)) i.codes;
-      entries = lists (length (held i.names)) i.entries;
-      references = lists (length (held i.names)) i.references;
+      codes = lists i.codes;
+      entries = lists i.entries;
+      references = lists i.references;
     }
 
 -- no units
@@ -56,8 +56,7 @@ sections =
 
 -- whether a name stands among others
 abbrev pub among : Name → List Name → Bool
-among n [] = false
-among n (m ∷ ms) = bytes_eq m.bytes n.bytes || among n ms
+among n = list_any (λ m. bytes_eq m.bytes n.bytes)
 
 -- whether no name stands twice
 abbrev pub different : List Name → Bool
@@ -66,9 +65,7 @@ different (n ∷ ns) = not (among n ns) && different ns
 
 -- whether the entries of each unit stand in its code
 abbrev pub placed : List (List ℕ) → List (List ℕ) → Bool
-placed [] ess = true
-placed (c ∷ cs) [] = true
-placed (c ∷ cs) (es ∷ ess) = every (λ e. ltb e (length c)) es && placed cs ess
+placed cs ess = list_all (λ p. list_all (λ e. nat_lt e (length p.0)) p.1) (zip cs ess)
 
 -- whether a target is there, among the entries of all units
 abbrev pub present : List (List ℕ) → Target → Bool
@@ -76,7 +73,7 @@ present ess t = nat_lt t.entry (length (slice_index_or ess t.unit []))
 
 -- whether names differ, entries stand in their unit's code, and references go to entries that are there
 abbrev pub valid : Units → Bool
-valid u = different u.names && (placed u.codes u.entries && every (every (present u.entries)) u.references)
+valid u = different u.names && (placed u.codes u.entries && list_all (list_all (present u.entries)) u.references)
 
 -- an image: valid sections
 abbrev pub image : Format Units

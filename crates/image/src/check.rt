@@ -1,48 +1,25 @@
 // What the sections of an image must keep among one another.
-ghost use Rattle.std.specs.Prelude.{◌≡◌, ℕ, ◌<◌, ◌≤◌, true, false, [], length, slice_index_or};
-ghost use Rattle.codec.specs.Format.{every};
-ghost use Rattle.image.specs.Dealt.{lists};
-ghost use Rattle.image.specs.Picture.{units, among, different, placed, present, valid};
+ghost use Rattle.std.specs.Prelude.{◌≡◌};
+ghost use Rattle.std.specs.List.{list_all};
+ghost use Rattle.image.specs.Picture.{units, different, placed, present, valid};
 
-use crate::column::Column;
 use crate::image::Image;
 use crate::target::Target;
 use codec::all_below;
 use names::Name;
 
-// Whether a name stands among others.
-fn stands_among(name: Name, others: &[Name]) -> bool
-    ensures { result ≡ among name others.now }
-{
-    for m in others {
-        if *m == name {
-            return true;
-        }
-    }
-    false
-}
-
 // Whether no name stands twice.
 fn all_different(names: &[Name]) -> bool
     ensures { result ≡ different names.now }
 {
-    for i in 0..names.len() {
-        if stands_among(names[i], &names[i + 1..]) {
+    let mut rest = names;
+    while let Some((name, others)) = rest.split_first() {
+        if others.contains(name) {
             return false;
         }
+        rest = others;
     }
     true
-}
-
-impl<T, const N: usize> Column<T, N> {
-    // The list of a unit.
-    pub(crate) fn list(&self, unit: usize) -> &[T]
-        requires { unit < 24 }
-        ensures value { (n : ℕ) → unit < n → result.now ≡ slice_index_or (lists n self.now) unit [] }
-        ensures few { length result.now ≤ N }
-    {
-        self.lists[unit].as_slice()
-    }
 }
 
 impl Image {
@@ -50,44 +27,37 @@ impl Image {
     fn has_entry(&self, t: Target) -> bool
         ensures { result ≡ present (units self.now).entries t }
     {
-        let unit = usize::from(t.unit);
-        unit < self.names.len() && usize::from(t.entry) < self.entries.list(unit).len()
+        usize::from(t.entry) < self.entries.get(usize::from(t.unit)).len()
     }
 
     // Whether all targets are there.
     fn all_present(&self, targets: &[Target]) -> bool
-        ensures { result ≡ every (present (units self.now).entries) targets.now }
+        ensures { result ≡ list_all (present (units self.now).entries) targets.now }
     {
-        for t in targets {
-            if !self.has_entry(*t) {
-                return false;
-            }
-        }
-        true
+        targets.iter().all(|t| self.has_entry(*t))
     }
 
     // Whether the references of all units go to entries that are there.
     fn all_meet(&self) -> bool
-        ensures { result ≡ every (every (present (units self.now).entries)) (units self.now).references }
+        ensures { result ≡ list_all (list_all (present (units self.now).entries)) (units self.now).references }
     {
-        for k in 0..self.names.len() {
-            if !self.all_present(self.references.list(k)) {
-                return false;
-            }
-        }
-        true
+        self.references
+            .lists
+            .as_slice()
+            .iter()
+            .all(|targets| self.all_present(targets.as_slice()))
     }
 
     // Whether the entries of all units stand in their code.
     fn all_placed(&self) -> bool
         ensures { result ≡ placed (units self.now).codes (units self.now).entries }
     {
-        for k in 0..self.names.len() {
-            if !all_below(self.entries.list(k), self.codes.list(k).len()) {
-                return false;
-            }
-        }
-        true
+        let codes = self.codes.lists.as_slice();
+        let entries = self.entries.lists.as_slice();
+        codes
+            .iter()
+            .zip(entries)
+            .all(|(code, places)| all_below(places.as_slice(), code.len()))
     }
 
     // Whether names differ, entries stand in code, and references go to entries that are there.

@@ -1,10 +1,9 @@
-ghost use Rattle.std.specs.Prelude.{◌≡◌, vec_len};
+use bounded::{Bounded, Pool};
 
-use bounded::Bounded;
-
-// One list for each of 24 units.
+// A list for each of some units, at most 24, in link order.
 #[derive(Drop)]
 pub struct Column<T, const N: usize> {
-    pub(crate) lists: Vec<Bounded<T, N>>,
-    ghost all: { vec_len lists ≡ 24 },
+    pub(crate) lists: Pool<Bounded<T, N>, 24>,
+    // what the next list is filled in
+    pub(crate) next: Bounded<T, N>,
 }

@@ -2,20 +2,19 @@
 ghost use Rattle.image.specs.Picture.{target};
 
 use crate::target::Target;
-use bounded::Bounded;
-use codec::{Field, Input, put_byte};
+use codec::{Field, Input, Malformed, Sink};
 
 impl Field for Target {
     ghost format = { target };
 
-    fn read(input: &mut Input<'_>) -> Option<Target> {
+    fn read(input: &mut Input<'_>) -> Result<Target, Malformed> {
         let unit = input.byte()?;
         let entry = input.byte()?;
-        Some(Target { unit, entry })
+        Ok(Target { unit, entry })
     }
 
-    fn append(&self, out: &mut Bounded<u8, 1896>) {
-        put_byte(self.unit, out);
-        put_byte(self.entry, out);
+    fn append<S: Sink>(&self, out: &mut S) {
+        self.unit.append(out);
+        self.entry.append(out);
     }
 }

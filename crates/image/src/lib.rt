@@ -4,14 +4,12 @@
 
 pub mod check;
 pub mod column;
-pub mod columns;
 pub mod fields;
 pub mod fill;
 pub mod image;
-pub mod lay;
-pub mod put;
+pub mod lists;
 pub mod read;
-pub mod short;
+pub mod rows;
 pub mod target;
 pub mod write;
 

@@ -2,30 +2,40 @@
 ghost use Rattle.std.specs.Prelude.{◌≡◌, OnOk};
 ghost use Rattle.names.specs.Refusals.{answer};
 ghost use Rattle.codec.specs.Format.{left, filled, got, refusing};
-ghost use Rattle.image.specs.Picture.{units, sections, image, valid, read, image_bytes, WithinUnits};
+ghost use Rattle.image.specs.Picture.{units, sections, image, read, image_bytes, WithinUnits};
 
 use crate::image::Image;
-use codec::{Input, read_short};
+use codec::{Count, Input, Malformed};
 use names::Refusal;
 
 impl Image {
     // Reads the sections, in place of what is held.
-    fn read_sections(&mut self, input: &mut Input<'_>) -> Option<()>
+    fn read_sections(&mut self, input: &mut Input<'_>) -> Result<(), Malformed>
         ensures { filled result (units self.new) (left input.new) ≡ sections.get (left input.old) }
     {
-        read_short(input, &mut self.names)?;
-        let count = self.names.len();
+        self.clear();
+        u8::read_section(input, &mut self.names)?;
+        let count = self.names.len() as u8;
         self.codes.read_exactly(input, count)?;
         self.entries.read_dealt(input, count)?;
         self.references.read_dealt(input, count)
     }
 
     // Reads valid sections, in place of what is held.
-    fn read_image(&mut self, input: &mut Input<'_>) -> Option<()>
+    fn read_image(&mut self, input: &mut Input<'_>) -> Result<(), Malformed>
         ensures { filled result (units self.new) (left input.new) ≡ image.get (left input.old) }
     {
         self.read_sections(input)?;
-        if self.is_valid() { Some(()) } else { None }
+        Malformed::unless(self.is_valid())
+    }
+
+    // Reads the image that the bytes are, in place of what is held.
+    fn read_whole(&mut self, bytes: &[u8]) -> Result<(), Malformed>
+        ensures { got result (units self.new) ≡ read bytes.now }
+    {
+        let mut input = Input { rest: bytes };
+        self.read_image(&mut input)?;
+        input.end()
     }
 
     // Reads the image that the bytes are, in place of what is held; where they are none, what is held then is open.
@@ -34,10 +44,6 @@ impl Image {
         ensures back { OnOk result ((image_bytes (units self.new) ≡ bytes.now) × WithinUnits (units self.new)) }
         ensures number { answer result ≡ refusing 54 (read bytes.now) }
     {
-        let mut input = Input { rest: bytes };
-        match self.read_image(&mut input) {
-            Some(_) if input.rest.is_empty() => Ok(()),
-            _ => Err(Refusal::NotAnImage),
-        }
+        self.read_whole(bytes).map_err(|_| Refusal::NotAnImage)
     }
 }

@@ -1,13 +1,12 @@
 // Writing of images.
 ghost use Rattle.std.specs.Prelude.{◌≡◌, length, if◌then◌else◌, nat_le};
 ghost use Rattle.names.specs.Refusals.{answer};
-ghost use Rattle.image.specs.Laid.{Lays, Wrote};
+ghost use Rattle.image.specs.Laid.{Wrote};
 ghost use Rattle.image.specs.Picture.{units, image_bytes};
 ghost use Rattle.image.specs.Round.{ReadsBack, RoundTrip};
 
 use crate::image::Image;
-use crate::lay::{put_all, put_names};
-use crate::put::put_codes;
+use codec::{Buffer, Count, Sink};
 use names::Refusal;
 
 // The longest image has at most 12,630 bytes; and what holds of reading and writing.
@@ -22,25 +21,21 @@ impl Image {
     pub fn size(&self) -> usize
         ensures { result ≡ length (image_bytes (units self.now)) }
     {
-        let count = self.names.len();
-        6 + 10 * count
-            + self.codes.total(count)
-            + 3 * self.entries.total(count)
-            + 3 * self.references.total(count)
+        6 + 8 * self.names.len()
+            + 2 * self.codes.lists.len()
+            + self.codes.total()
+            + 3 * self.entries.total()
+            + 3 * self.references.total()
     }
 
-    // The sections from the start of a buffer on.
-    fn put_sections(&self, buffer: &mut [u8]) -> usize
-        ensures { Lays 0 (image_bytes (units self.now)) buffer.old buffer.new result }
+    // Puts the sections, where they have room.
+    fn append_sections<S: Sink>(&self, out: &mut S)
+        ensures { S.Sink.Takes out.old (image_bytes (units self.now)) out.new }
     {
-        let units = self.names.len();
-        let count = [units as u8];
-        let named = put_all(buffer, 0, &count);
-        let counted = put_names(buffer, named, self.names.as_slice());
-        let coded = put_all(buffer, counted, &count);
-        let entered = put_codes(&self.codes, buffer, coded, units);
-        let referred = self.entries.put_dealt(buffer, entered, units);
-        self.references.put_dealt(buffer, referred, units)
+        u8::append_section(&self.names, out);
+        self.codes.append_exactly(out);
+        self.entries.append_dealt(out);
+        self.references.append_dealt(out);
     }
 
     // Writes the image to the start of a buffer and answers its length; bytes behind stay.
@@ -53,6 +48,11 @@ impl Image {
         if self.size() > buffer.len() {
             return Err(Refusal::ImageTooLong);
         }
-        Ok(self.put_sections(buffer))
+        let mut out = Buffer {
+            bytes: buffer,
+            at: 0,
+        };
+        self.append_sections(&mut out);
+        Ok(out.at)
     }
 }

@@ -81,7 +81,7 @@ impl Assembler {
                 reference: k as u8,
             });
         }
-        image.add(
+        let _ = image.add(
             unit.name(),
             product.code.as_slice(),
             product.entries.as_slice(),

@@ -1,12 +1,8 @@
-use Rattle.std.proofs.Common.{◌≡◌, Some, sym, ap, rules}
-use Rattle.codec.specs.Format.{refusing}
-use Rattle.artifact.specs.Art.{art, read}
+use Rattle.std.proofs.Common.{rules}
+use Rattle.codec.proofs.Laws.{backed}
+use Rattle.artifact.specs.Art.{art, artifact_bytes, read, WithinArt}
 use Rattle.artifact.proofs.Rounds.{round_trip}
 use Rattle.artifact.proofs.artifact.Artifact.read.Goals as goal
 
-pub returns-in-Some : goal.returns-in-Some
-returns-in-Some c =
-    let a = art c.read_parts.new.self in
-    let bs = c.args.bytes.now in
-    let e : Some a ≡ read bs = search rules in
-    record { parts = e; back = (round_trip.written_read bs a (sym e), round_trip.within bs a (sym e)); number = ap (refusing 55) e }
+pub returns-clause-back : goal.returns-clause-back
+returns-clause-back c = backed read artifact_bytes WithinArt round_trip.written_read round_trip.within c.map_err.result (art c.read_whole.new.self) c.args.bytes.now (search rules)

@@ -1,21 +1,16 @@
-use Rattle.std.proofs.Common.{take, drop, Some, sym, refl, ap, ◌∙◌, arith, length-take}
-use Rattle.std.proofs.lemmas.List.{take_rest}
-use Rattle.names.specs.Spelling.{padded_name}
-use Rattle.names.proofs.Spelled.{padded_long}
-use Rattle.codec.proofs.Named.{name_of_yes, name_of_no}
+use Rattle.std.proofs.Common.{◌≡◌, Bool, true, false, cond, List, ℕ, Some, None, Option, take, drop, length, refl, ap, ◌∙◌, nat_le}
+use Rattle.names.specs.declared.name.Name.{Name}
+use Rattle.codec.specs.Format.{left, name}
+use Rattle.codec.proofs.Named.{name_of_yes}
+use Rattle.codec.proofs.Laws.{some_first, some_rest}
 use Rattle.codec.proofs.input.Input.name.Goals as goal
 
-pub returns-then-self-lt8 : goal.returns-then-self-lt8
-returns-then-self-lt8 c =
-    let bs = c.args.self.now.rest.now in
-    name_of_no (take 8 bs) _ refl (drop 8 bs) (padded_long (take 8 bs) (λ e. omega (arith, length-take 8 bs)))
+-- what stands in the first eight bytes
+named : (t : Bool) (bs cs ds : List ℕ) (n : Name) → ◌≡◌ {A = Option (List ℕ × List ℕ)} (Some (cs, ds)) (cond t (Some (take 8 bs, drop 8 bs)) None) → n.bytes ≡ cs → ◌≡◌ {A = Option (Name × List ℕ)} (Some (n, ds)) (name.get bs)
+named true bs cs ds n e f =
+    ap (λ xs. Some (n, xs)) (some_rest cs (take 8 bs) ds (drop 8 bs) e) ∙ name_of_yes (take 8 bs) _ refl (drop 8 bs) n (f ∙ some_first cs (take 8 bs) ds (drop 8 bs) e)
+named false bs cs ds n e f = cc
 
-pub returns-in-Ok : goal.returns-in-Ok
-returns-in-Ok c =
-    let bs = c.args.self.now.rest.now in
-    ap (λ cs. Some (c.in-Ok.name, cs)) (take_rest bs 8) ∙ name_of_yes (take 8 bs) _ refl (drop 8 bs) c.in-Ok.name (c.in-Ok.ensures ∙ c.copy_from_slice.ensures.after)
-
-pub returns-in-Err : goal.returns-in-Err
-returns-in-Err c =
-    let bs = c.args.self.now.rest.now in
-    name_of_no (take 8 bs) _ refl (drop 8 bs) (sym (ap padded_name c.copy_from_slice.ensures.after) ∙ c.in-Err.ensures.1)
+pub returns : goal.returns
+returns c =
+    named (nat_le 8 (length (left c.args.self.now))) (left c.args.self.now) c.in_ok-bytes.field-0 (left c.bytes.new.self) c.in_ok-name.name c.in_ok-bytes.ensures c.in_ok-name.ensures

@@ -1,23 +1,27 @@
-use Rattle.std.proofs.Common.{◌+◌, ◌<◌, length, take, ap, ◌∙◌, arith}
+use Rattle.std.proofs.Common.{◌≡◌, ◌+◌, ◌≤◌, map, length, take, ap, ◌∙◌, arith, rules}
 use Rattle.std.proofs.lemmas.List.{take_all}
-use Rattle.image.specs.Dealt.{lists, flat}
+use Rattle.bounded.specs.Held.{held}
+use Rattle.bounded.proofs.Few.{held_few}
+use Rattle.image.specs.Dealt.{flat}
 use Rattle.image.proofs.Dealing.{flat-more}
-use Rattle.image.proofs.Placed.{column_length}
 use Rattle.image.proofs.column.Column.total.Goals as goal
 
-pub loop-k-preserved : goal.loop-k-preserved
-loop-k-preserved g c =
-    let xs = lists c.args.units c.args.self.now in
-    let k = c.loop-k.k in
-    let h : k < length xs = omega (arith, c.loop-k-test.true, column_length c.args.self.now c.args.units c.requires.0) in (
-      ap (λ n. n + length c.list.result.now) c.loop-k.invariant.0 ∙ ap (λ ys. length (flat (take k xs)) + length ys) (c.list.ensures.value c.args.units c.loop-k-test.true) ∙ flat-more xs k h,
-      omega (arith, c.loop-k.invariant.1, c.list.ensures.few, c.requires.1),
+pub overflow_add-sum : goal.overflow_add-sum
+overflow_add-sum g c =
+    record { fits = omega (arith, c.loop-list.invariant.1, c.loop-list-test.true, c.len-sum.ensures, held_few c.list-item.result, c.requires, ap length c.as_slice-list-items.ensures, c.args.self.now.lists.all, c.args.self.now.lists.used.ok.0) }
+
+pub loop-list-preserved : goal.loop-list-preserved
+loop-list-preserved g c =
+    let xs = c.as_slice-list-items.result.now in
+    let k = c.loop-list.list-index in (
+      ap (λ n. n + c.len-sum.result) c.loop-list.invariant.0 ∙ ap (λ n. length (flat (map held (take k xs))) + n) c.len-sum.ensures ∙ flat-more held xs k c.list-item.result c.loop-list-test.true c.list-item.is,
+      omega (arith, c.loop-list.invariant.1, c.len-sum.ensures, held_few c.list-item.result, c.requires),
     )
 
 pub returns : goal.returns
 returns g c =
-    let xs = lists c.args.units c.args.self.now in
+    let xs = c.as_slice-list-items.result.now in
     record {
-      value = c.loop-k.invariant.0 ∙ ap (λ ys. length (flat ys)) (take_all c.loop-k.k xs (omega (arith, c.loop-k-test.false, column_length c.args.self.now c.args.units c.requires.0)));
-      few = omega (arith, c.loop-k.invariant.1, c.requires.0, c.loop-k.auto.k-end);
+      value = c.loop-list.invariant.0 ∙ ap (λ ys. length (flat (map held ys))) (take_all c.loop-list.list-index xs c.loop-list-test.false ∙ c.as_slice-list-items.ensures);
+      few = omega (arith, c.loop-list.invariant.1, c.loop-list.auto.list-index-end, ap length c.as_slice-list-items.ensures, c.args.self.now.lists.all, c.args.self.now.lists.used.ok.0);
     }

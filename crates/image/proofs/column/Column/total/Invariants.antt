@@ -1,6 +1,7 @@
-use Rattle.std.proofs.Common.{◌≡◌, ◌*◌, ◌≤◌, length, take}
-use Rattle.image.specs.Dealt.{lists, flat}
+use Rattle.std.proofs.Common.{◌≡◌, ◌*◌, ◌≤◌, map, length, take}
+use Rattle.bounded.specs.Held.{held}
+use Rattle.image.specs.Dealt.{flat}
 use Rattle.image.proofs.column.Column.total.Given as goal
 
-abbrev pub invariant-loop-k : goal.invariant-loop-k
-invariant-loop-k g l = (l.sum ≡ length (flat (take l.k (lists l.units l.self)))) × (l.sum ≤ l.k * 384)
+abbrev pub invariant-loop-list : goal.invariant-loop-list
+invariant-loop-list g l = (l.sum ≡ length (flat (map held (take l.list-index l.list-items)))) × (l.sum ≤ l.list-index * 384)

@@ -1,8 +1,5 @@
-use Rattle.bounded.specs.Held.{held}
 use Rattle.codec.specs.Format.{byte}
-use Rattle.codec.proofs.Added.{adds_both}
 use Rattle.image.proofs.fields.TargetField.append.Goals as goal
 
 pub returns : goal.returns
-returns c =
-    adds_both (held c.args.out.now) (byte.put c.args.self.now.unit) (held c.put_byte.new.out) (byte.put c.args.self.now.entry) (held c.put_byte-2.new.out) c.put_byte.ensures c.put_byte-2.ensures
+returns g c = g.met.S.Sink.both _ _ _ (byte.put c.args.self.now.unit) (byte.put c.args.self.now.entry) c.append.ensures c.append-2.ensures

@@ -1,12 +1,8 @@
-use Rattle.std.proofs.Common.{◌≡◌, Some, sym, ap, rules}
-use Rattle.codec.specs.Format.{refusing}
-use Rattle.image.specs.Picture.{units, read}
+use Rattle.std.proofs.Common.{rules}
+use Rattle.codec.proofs.Laws.{backed}
+use Rattle.image.specs.Picture.{units, image_bytes, read, WithinUnits}
 use Rattle.image.proofs.Rounds.{round_trip}
 use Rattle.image.proofs.image.Image.read.Goals as goal
 
-pub returns-in-Some : goal.returns-in-Some
-returns-in-Some c =
-    let u = units c.read_image.new.self in
-    let bs = c.args.bytes.now in
-    let e : Some u ≡ read bs = search rules in
-    record { parts = e; back = (round_trip.written_read bs u (sym e), round_trip.within bs u (sym e)); number = ap (refusing 54) e }
+pub returns-clause-back : goal.returns-clause-back
+returns-clause-back c = backed read image_bytes WithinUnits round_trip.written_read round_trip.within c.map_err.result (units c.read_whole.new.self) c.args.bytes.now (search rules)
