@@ -1,5 +1,5 @@
 -- Linking: each reference resolved to a unit and an entry, by the present imports of its unit.
-use Rattle.std.specs.Prelude.{ℕ, zero, suc, ◌+◌, not, List, [], ◌∷◌, map, Some, None, Option, position}
+use Rattle.std.specs.Prelude.{ℕ, zero, suc, ◌+◌, not, List, [], ◌∷◌, map, Some, None, Option, option_and_then, position}
 use Rattle.std.specs.Option.{unwrap_or}
 use Rattle.std.specs.List.{slice_get}
 use Rattle.names.specs.declared.name.Name.{Name}
@@ -22,8 +22,7 @@ plain d = record { code = d.parts.code; entries = d.parts.entries; references = 
 
 -- the place of the unit of a name, if there is one
 abbrev pub place_of : List Member → Option Name → Option ℕ
-place_of us (Some n) = at n us
-place_of us None = None
+place_of us o = option_and_then (λ n. at n us) o
 
 -- where a reference of the unit at place i goes: 0 is the unit itself, else the unit of the import at that position
 abbrev pub target_place : List Member → ℕ → Member → ℕ → Option ℕ

@@ -13,7 +13,7 @@ use Rattle.project.specs.Members.{Member, same, at}
 use Rattle.project.specs.Checked.{names}
 use Rattle.project.proofs.Places.{position-map}
 use Rattle.ledger.specs.Fresh.{Made, in_order}
-use Rattle.ledger.specs.Linking.{Plain, plain, place_of, target_place, resolved, targets, units_of, broken, whole, lacking, link_by, tested_from, linking}
+use Rattle.ledger.specs.Linking.{Plain, plain, target_place, resolved, targets, units_of, broken, whole, lacking, link_by, tested_from, linking}
 use Rattle.linker.specs.Place.{named, goal, resolved_by}
 use Rattle.linker.specs.declared.assembler.Missing.{Missing}
 use Rattle.linker.specs.Assembled.{entries_of, targets_of, Added}
@@ -68,11 +68,7 @@ at_named n us = sym (position-map (λ m. same m n) (λ (u : Member). u.name) us)
 
 goal_is : (us : List Member) (i : ℕ) (u : Member) (k : ℕ) → target_place us i u k ≡ goal (names us) i u.imports k
 goal_is us i u zero = refl
-goal_is us i u (suc k) = by (slice_get u.imports k)
-  where
-    by : (o : Option Name) → place_of us o ≡ option_and_then (λ n. named n (names us)) o
-    by (Some n) = at_named n us
-    by None = refl
+goal_is us i u (suc k) = λ j. option_and_then (λ n. at_named n us j) (slice_get u.imports k)
 
 pub resolved_is : (us : List Member) (i : ℕ) (u : Member) (r : Reference) → resolved us i u r ≡ resolved_by (names us) i u.imports r
 resolved_is us i u r = ap (λ o. record { unit = unwrap_or o 0; entry = r.entry }) (goal_is us i u r.position)

@@ -1,9 +1,9 @@
 -- The smallest unit that lacks an import.
-use Rattle.std.proofs.Common.{◌≡◌, ℕ, zero, suc, ◌+◌, ◌<◌, Bool, true, false, not, List, [], ◌∷◌, length, is_some, Some, None, Option, sym, refl, ap, ◌∙◌, add-one, arith}
-use Rattle.std.specs.Option.{option_map, unwrap_or}
+use Rattle.std.proofs.Common.{◌≡◌, ℕ, suc, ◌+◌, ◌<◌, Bool, true, false, not, List, length, is_some, Some, None, Option, sym, refl, ap, ◌∙◌, add-one, arith}
+use Rattle.std.specs.Option.{option_map, option_map_or, unwrap_or}
 use Rattle.std.specs.List.{slice_get}
 use Rattle.std.proofs.lemmas.List.{length-map}
-use Rattle.std.proofs.lemmas.Option.{slice_get-map, slice_get-get_or, none-some}
+use Rattle.std.proofs.lemmas.Option.{slice_get-map}
 use Rattle.std.proofs.lemmas.Bool.{true≢false}
 use Rattle.names.specs.declared.name.Name.{Name}
 use Rattle.names.specs.Ordered.{by_name, name_cmp}
@@ -12,10 +12,8 @@ use Rattle.order.proofs.Least.{smallest_passes, smallest-same}
 use Rattle.project.specs.Members.{Member}
 use Rattle.project.specs.Checked.{Verdict, missing, names, lack, lacks, lack_at}
 
-lacks-there : (vs us : List Member) (i : ℕ) (u : Member) → slice_get us i ≡ Some u → lacks vs us i ≡ is_some (lack vs u.imports)
-lacks-there vs [] i u e = absurd (none-some u e)
-lacks-there vs (w ∷ us) zero u e = let q : w ≡ u = cc in ap (λ (v : Member). is_some (lack vs v.imports)) q
-lacks-there vs (w ∷ us) (suc i) u e = lacks-there vs us i u e
+pub lacks-there : (vs us : List Member) (i : ℕ) (u : Member) → slice_get us i ≡ Some u → lacks vs us i ≡ is_some (lack vs u.imports)
+lacks-there vs us i u e = ap (λ o. option_map_or (λ (v : Member). is_some (lack vs v.imports)) o false) e
 
 twice : (b : Bool) → not (not b) ≡ b
 twice true = refl
@@ -46,7 +44,7 @@ module _ (vs : List Member) where
           (omega arith, p.1)
 
       pub no_unit : slice_get vs i ≡ None → ⊥
-      no_unit f = elim vs as (λ us. i < length us → slice_get us i ≡ None → ⊥) [ [] ↦ λ h g. omega arith | d ∷ us ↦ λ h g. none-some _ (sym g ∙ slice_get-get_or (d ∷ us) i d h) ] there.0 f
+      no_unit f = true≢false (sym there.1 ∙ ap (λ o. option_map_or (λ (v : Member). is_some (lack vs v.imports)) o false) f)
 
       module _ (u : Member) (f : slice_get vs i ≡ Some u) where
         pub no_lack : lack vs u.imports ≡ None → ⊥

@@ -1,13 +1,14 @@
 -- What the loops of a check list, one unit after another.
-use Rattle.std.proofs.Common.{◌≡◌, ℕ, zero, suc, ◌+◌, ◌<◌, ◌≤◌, Bool, true, false, cond, not, ◌&&◌, ◌||◌, eqb, ltb, leb, ◌⊎◌, List, [], ◌∷◌, ◌++◌, map, length, get_or, take, is_some, sym, refl, ap, ◌∙◌, inl, inr, add-zero, arith}
-use Rattle.std.proofs.Math.Bool.{or-false}
+use Rattle.std.proofs.Common.{◌≡◌, ℕ, suc, ◌+◌, ◌<◌, ◌≤◌, Bool, true, false, cond, not, ◌&&◌, ltb, leb, List, [], ◌∷◌, ◌++◌, map, length, get_or, take, sym, ap, ◌∙◌, add-zero, arith}
 use Rattle.std.proofs.lemmas.List.{append-nil, append_assoc, take_more, length-map, length-take-le, map-append}
-use Rattle.std.proofs.lemmas.Bool.{lt-ltb, le-ltb, le-leb, eq-eqb, ne_eqb, cases_order}
+use Rattle.std.proofs.lemmas.Bool.{lt-ltb, le-leb}
+use Rattle.std.proofs.lemmas.Grind.{common_steps}
+use Rattle.std.proofs.lemmas.Bool.Decides.{nat_tests}
 use Rattle.order.specs.Dependency.{placed}
 use Rattle.bounded.specs.Held.{held}
 use Rattle.project.specs.declared.unit.Unit.{Unit}
 use Rattle.project.specs.Members.{Member, member}
-use Rattle.project.specs.Checked.{needs_for, needs, lack, lacks}
+use Rattle.project.specs.Checked.{needs_for, needs}
 
 -- one element more, where there is room
 pub grown : {X : Type 0} (was now xs : List X) (x : X) (r : Bool) (n : ℕ) → r ≡ ltb (length was) n → now ≡ cond r (was ++ x ∷ []) was → length was < n → was ≡ xs → now ≡ xs ++ x ∷ []
@@ -37,51 +38,10 @@ needs-more us i u h e =
     ∙ ap (needs 0) (sym (map-append member (take i us) (u ∷ [])))
     ∙ ap (λ xs. needs 0 (map member xs)) (ap (λ w. take i us ++ w ∷ []) e ∙ sym (take_more us i u h))
 
-pub placed_push : (d : List ℕ) (x k : ℕ) → placed (d ++ x ∷ []) k ≡ (placed d k || eqb x k)
-placed_push [] x k = or-false (eqb x k)
-placed_push (y ∷ d) x k = ap (λ b. eqb y k || b) (placed_push d x k) ∙ sym (or_assoc (eqb y k) (placed d k) (eqb x k))
-  where
-    or_assoc : (a b c : Bool) → ((a || b) || c) ≡ (a || (b || c))
-    or_assoc true b c = refl
-    or_assoc false b c = refl
-
-pub lacks-at : (vs us : List Member) (i : ℕ) (u : Member) → i < length us → get_or us i u ≡ u → lacks vs us i ≡ is_some (lack vs u.imports)
-lacks-at vs [] i u h e = absurd (omega arith)
-lacks-at vs (w ∷ us) zero u h e = ap (λ x. is_some (lack vs x.imports)) e
-lacks-at vs (w ∷ us) (suc i) u h e = lacks-at vs us i u (omega arith) e
-
 -- the units below i that lack nothing, with and without the one at i
 module _ (test : ℕ → Bool) (i : ℕ) (was now : List ℕ) (inv : (k : ℕ) → placed was k ≡ (ltb k i && not (test k))) where
   pub whole-more : test i ≡ false → now ≡ was ++ i ∷ [] → (k : ℕ) → placed now k ≡ (ltb k (i + 1) && not (test k))
-  whole-more t e k =
-      ap (λ d. placed d k) e ∙ placed_push was i k ∙ ap (λ b. b || eqb i k) (inv k) ∙ by (cases_order k i)
-    where
-      by : (k ≡ i) ⊎ ((k < i) ⊎ (i < k)) → ((ltb k i && not (test k)) || eqb i k) ≡ (ltb k (i + 1) && not (test k))
-      by (inl q) =
-          let here : ltb k i ≡ false = le-ltb k i (omega arith) in
-          let next : ltb k (i + 1) ≡ true = lt-ltb k (i + 1) (omega arith) in
-          let free : test k ≡ false = ap test q ∙ t in
-          (λ j. (here j && not (test k)) || eq-eqb i k (sym q) j) ∙ sym (λ j. next j && not (free j))
-      by (inr (inl l)) =
-          let next : ltb k (i + 1) ≡ true = lt-ltb k (i + 1) (omega arith) in
-          (λ j. (lt-ltb k i l j && not (test k)) || ne_eqb i k (λ q. omega arith) j) ∙ or-false (not (test k)) ∙ sym (ap (λ b. b && not (test k)) next)
-      by (inr (inr l)) =
-          let next : ltb k (i + 1) ≡ false = le-ltb k (i + 1) (omega arith) in
-          (λ j. (le-ltb k i (omega arith) j && not (test k)) || ne_eqb i k (λ q. omega arith) j) ∙ sym (ap (λ b. b && not (test k)) next)
+  whole-more t e k = grind (arith, common_steps, nat_tests, inv k, t, e)
 
   pub whole_same : test i ≡ true → now ≡ was → (k : ℕ) → placed now k ≡ (ltb k (i + 1) && not (test k))
-  whole_same t e k = ap (λ d. placed d k) e ∙ inv k ∙ by (cases_order k i)
-    where
-      by : (k ≡ i) ⊎ ((k < i) ⊎ (i < k)) → (ltb k i && not (test k)) ≡ (ltb k (i + 1) && not (test k))
-      by (inl q) =
-          let here : ltb k i ≡ false = le-ltb k i (omega arith) in
-          let next : ltb k (i + 1) ≡ true = lt-ltb k (i + 1) (omega arith) in
-          let taken : test k ≡ true = ap test q ∙ t in
-          ap (λ b. b && not (test k)) here ∙ sym (λ j. next j && not (taken j))
-      by (inr (inl l)) =
-          let next : ltb k (i + 1) ≡ true = lt-ltb k (i + 1) (omega arith) in
-          ap (λ b. b && not (test k)) (lt-ltb k i l ∙ sym next)
-      by (inr (inr l)) =
-          let here : ltb k i ≡ false = le-ltb k i (omega arith) in
-          let next : ltb k (i + 1) ≡ false = le-ltb k (i + 1) (omega arith) in
-          ap (λ b. b && not (test k)) (here ∙ sym next)
+  whole_same t e k = grind (arith, common_steps, nat_tests, inv k, t, e)

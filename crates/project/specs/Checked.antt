@@ -1,6 +1,6 @@
 -- Whether a project can be linked: every import a unit, and no circle.
-use Rattle.std.specs.Prelude.{ℕ, zero, suc, ◌+◌, Bool, false, not, List, [], ◌∷◌, ◌++◌, map, is_some, Some, None, Ok, Err, Option, Result, position}
-use Rattle.std.specs.Option.{unwrap_or, option_map}
+use Rattle.std.specs.Prelude.{ℕ, suc, ◌+◌, Bool, false, not, List, [], ◌∷◌, ◌++◌, map, is_some, Some, None, Ok, Err, Option, Result, position}
+use Rattle.std.specs.Option.{unwrap_or, option_map, option_map_or}
 use Rattle.std.specs.List.{slice_get}
 use Rattle.names.specs.declared.name.Name.{Name}
 use Rattle.names.specs.declared.refusal.Refusal.{Refusal}
@@ -22,9 +22,7 @@ lack vs imports = position (λ n. not (is_some (at n vs))) imports
 
 -- the unit at a place has an import that is no unit
 abbrev pub lacks : List Member → List Member → ℕ → Bool
-lacks vs [] i = false
-lacks vs (u ∷ us) zero = is_some (lack vs u.imports)
-lacks vs (u ∷ us) (suc i) = lacks vs us i
+lacks vs us i = option_map_or (λ (u : Member). is_some (lack vs u.imports)) (slice_get us i) false
 
 -- the names of the units
 abbrev pub names : List Member → List Name

@@ -4,7 +4,8 @@ use Rattle.bounded.specs.Held.{held, used}
 use Rattle.project.specs.Members.{member, members}
 use Rattle.project.specs.Checked.{lack, lacks}
 use Rattle.project.proofs.Standing.{used_few, member_at}
-use Rattle.project.proofs.Listed.{grown, lacks-at, whole-more, whole_same}
+use Rattle.project.proofs.Listed.{grown, whole-more, whole_same}
+use Rattle.project.proofs.Lacking.{lacks-there}
 use Rattle.project.proofs.check.list_whole.Goals as goal
 use Rattle.project.proofs.check.list_whole.Goals.{then-is_none, else-is_none}
 
@@ -19,7 +20,7 @@ loop-i-preserved c =
     let as_many : length vs ≡ length us = length-map us member in
     let below : i < length us = omega arith in
     let here : lacks vs vs i ≡ not c.is_none.result =
-    lacks-at vs vs i (member u) (omega arith) (member_at us i u below (c.unit-item.is ∙ ap (λ xs. get_or xs i u) c.as_slice-unit-items.ensures))
+    lacks-there vs vs i (member u) (member_at us i u below (c.unit-item.is ∙ ap (λ xs. get_or xs i u) c.as_slice-unit-items.ensures))
     ∙ ap (λ xs. is_some (lack vs xs)) (sym c.imports.ensures) ∙ ap is_some (sym c.lack.ensures) ∙ c.is_none.ensures in
     elim c.if-is_none.branch [
       | then-is_none w ↦
