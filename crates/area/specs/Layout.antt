@@ -22,7 +22,7 @@ most_rows = 24
 
 -- the rows of an area of this length
 abbrev pub rows_of : ℕ → ℕ
-rows_of n = min 24 (n / slot_size)
+rows_of n = min most_rows (n / slot_size)
 
 -- a record with its header: mark, name, length with the high byte first
 abbrev pub laid : List ℕ → List ℕ → List ℕ

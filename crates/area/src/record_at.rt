@@ -1,7 +1,8 @@
 // The record at the start of a piece of an area, and a record laid at a place.
-ghost use Rattle.std.specs.Prelude.{◌≡◌, ◌/◌, ◌%◌, [], ◌∷◌, ◌++◌, length, IfOk, if◌then◌else◌, Some, vec_len, nat_eq, slice_set};
+ghost use Rattle.std.specs.Prelude.{◌≡◌, ◌/◌, ◌%◌, false, [], ◌∷◌, ◌++◌, length, IfOk, if◌then◌else◌, Some, vec_len, nat_eq, slice_set, MatchOption};
 ghost use Rattle.std.specs.Str.{bytes_eq};
 ghost use Rattle.names.specs.Refusals.{answer};
+ghost use Rattle.names.specs.Spelling.{padded_name};
 ghost use Rattle.store.specs.Says.{get_number, get_buffer};
 ghost use Rattle.area.specs.Layout.{rows_of, live, key, size, content, holds, written, lay_number};
 
@@ -34,6 +35,14 @@ fn is_named(piece: &[u8], name: Name) -> bool
     ensures { result ≡ bytes_eq (key piece.now) name.bytes }
 {
     piece.len() >= LENGTH_AT && piece[NAME_AT..LENGTH_AT] == name.bytes()[..]
+}
+
+// The name in the header at the piece's start, where the bytes there are one.
+pub fn name_of(piece: &[u8]) -> Option<Name>
+    ensures { MatchOption result (padded_name (key piece.now) ≡ false) (λ n. n.bytes ≡ key piece.now) }
+{
+    let bytes = piece.get(NAME_AT..LENGTH_AT)?.as_array::<8>()?;
+    Name::from_padded(*bytes).ok()
 }
 
 // The length of the record at the piece's start.

@@ -1,16 +1,16 @@
 -- The records held, when one is found, moved to the front, taken in or let go.
-use Rattle.std.proofs.Common.{◌≡◌, ℕ, suc, ◌+◌, ◌-◌, ◌<◌, ◌≤◌, true, false, leb, List, [], ◌∷◌, ◌++◌, map, length, get_or, take, drop, Some, None, Option, sym, refl, ap, ◌∙◌, subst, add-one, arith}
+use Rattle.std.proofs.Common.{◌≡◌, ℕ, zero, suc, ◌+◌, ◌-◌, ◌<◌, ◌≤◌, true, false, leb, List, [], ◌∷◌, ◌++◌, map, length, get_or, take, drop, Some, None, Option, MatchOption, sym, refl, ap, ◌∙◌, subst, add-one, arith}
 use native.Mathlib.Nat.{sub-zero}
 use lib.ListN.{length-map}
-use Rattle.std.specs.List.{remove}
+use Rattle.std.specs.List.{remove, AllWithin, HoldsAt}
 use Rattle.std.specs.Option.{option_map}
 use Rattle.std.specs.Str.{bytes_eq}
 use Rattle.std.proofs.lemmas.Bool.{or_from, le-leb, lt-leb, cond-true, cond-false}
-use Rattle.std.proofs.lemmas.List.{take_more, drop_more, take-append-drop, get_or-map, take-map, drop-map, take_all, map-append, get_or_at, drop_at, take_at, length-take-le}
+use Rattle.std.proofs.lemmas.List.{take_more, drop_more, take-append-drop, get_or-map, take-map, drop-map, take_all, map-append, get_or_at, get_or_default, drop_at, take_at, length-take-le}
 use Rattle.bounded.specs.Held.{held}
 use Rattle.store.specs.Pairs.{Pair, pair, lookup, has, without}
 use Rattle.store.specs.Says.{get_number, get_buffer}
-use Rattle.store.proofs.Pairs.{by_test, has-append, lookup-at, without_at, length_in}
+use Rattle.store.proofs.Pairs.{by_test, same_is, has-append, lookup-at, without_at, length_in}
 use Rattle.cache.specs.Recent.{places, admitted, to_front, after_get, PlaceOf}
 use Rattle.cache.specs.Kept.{copy_of}
 use Rattle.cache.specs.declared.copies.Copied.{Copied}
@@ -33,6 +33,32 @@ module _ (xs : List Pair) (i : ℕ) (p : Pair) (q : List ℕ) (h : i < length xs
       let is : p ≡ pair q p.bytes = ap (λ (k : List ℕ). pair k p.bytes) e in
       (h, (p.bytes, sym (take-append-drop i xs) ∙ ap (λ (x : List Pair). take i xs ++ x) (drop_more xs i p h) ∙ ap (λ (x : Pair). take i xs ++ x ∷ drop (i + 1) xs) (sym r ∙ is)), none)
 
+-- where a walk through the copies stopped
+module _ (cs : List Copied) (q : List ℕ) (d : Copied) where
+  abbrev no : Copied → Type 0
+  no x = bytes_eq x.name.bytes q ≡ false
+
+  read : (i : ℕ) → i < length cs → (i < length (map copy_of cs)) × (copy_of (get_or cs i d) ≡ get_or (map copy_of cs) i (copy_of (get_or cs i d)))
+  read i h = at_map cs cs i (get_or cs i d) refl h (get_or_default cs i d (get_or cs i d) h)
+
+  none_upto : (n : ℕ) → n ≤ length cs → AllWithin no cs 0 n → has (take n (map copy_of cs)) q ≡ false
+  none_upto zero h all = refl
+  none_upto (suc n) h all =
+      let at = read n (omega arith) in
+      let ahead : AllWithin no cs 0 n = λ k e l u. all k e l (omega arith) in
+      subst (λ (m : ℕ). has (take m (map copy_of cs)) q ≡ false) (add-one n) (find_next (map copy_of cs) n (copy_of (get_or cs n d)) q at.0 at.1 (none_upto n (omega arith) ahead) (all n d (omega arith) (omega arith)))
+
+  stopped : (r : Option ℕ) → MatchOption r (AllWithin no cs 0 (length cs)) (λ i. (i < length cs) × HoldsAt (λ x. bytes_eq x.name.bytes q ≡ true) cs i × AllWithin no cs 0 i) → MatchOption r (has (map copy_of cs) q ≡ false) (λ i. PlaceOf (map copy_of cs) q i)
+  stopped None all = ap (λ (x : List Pair). has x q) (sym (take_all (length cs) (map copy_of cs) (let l = length-map cs copy_of in omega arith))) ∙ none_upto (length cs) (omega arith) all
+  stopped (Some i) (h, here, all) =
+      let at = read i h in
+      find_here (map copy_of cs) i (copy_of (get_or cs i d)) q at.0 at.1 (none_upto i (omega arith) all) (same_is (get_or cs i d).name.bytes q (here d))
+
+pub place_of : (cs : List Copied) (q : List ℕ) (r : Option ℕ) → MatchOption r (AllWithin (λ x. bytes_eq x.name.bytes q ≡ false) cs 0 (length cs)) (λ i. (i < length cs) × HoldsAt (λ x. bytes_eq x.name.bytes q ≡ true) cs i × AllWithin (λ x. bytes_eq x.name.bytes q ≡ false) cs 0 i) → MatchOption r (has (map copy_of cs) q ≡ false) (λ i. PlaceOf (map copy_of cs) q i)
+place_of [] q None all = refl
+place_of [] q (Some i) (h, here, all) = absurd (omega arith)
+place_of (c ∷ cs) q r h = stopped (c ∷ cs) q c r h
+
 map_removed : (cs : List Copied) (i : ℕ) → map copy_of (remove cs i) ≡ take i (map copy_of cs) ++ drop (i + 1) (map copy_of cs)
 map_removed cs i =
     map-append copy_of (take i cs) (drop (suc i) cs)
@@ -43,14 +69,6 @@ pub kept_removed : (cs : List Copied) (i : ℕ) (q : List ℕ) → PlaceOf (map 
 kept_removed cs i q (h, (v, e), none) =
     let xs : List Pair = map copy_of cs in
     map_removed cs i ∙ sym (ap (without q) e ∙ without_at (take i xs) (drop (i + 1) xs) q v none)
-
--- a copy moved to the front
-pub kept_touched : (cs : List Copied) (i : ℕ) (x : Copied) → i < length cs → x ≡ get_or cs i x → copy_of x ∷ map copy_of (remove cs i) ≡ to_front i (map copy_of cs)
-kept_touched cs i x h r =
-    let xs : List Pair = map copy_of cs in
-    let at = at_map cs cs i x refl h r in
-    let one : take 1 (drop i xs) ≡ copy_of x ∷ [] = ap (take 1) (drop_more xs i (copy_of x) at.0) ∙ ap (λ (p : Pair). p ∷ []) (sym at.1) in
-    (λ j. sym one j ++ map_removed cs i j)
 
 -- the record of the copy at the place of a name
 pub place_copy : (cs : List Copied) (i : ℕ) (q : List ℕ) (x : Copied) → PlaceOf (map copy_of cs) q i → x ≡ get_or cs i x → lookup (map copy_of cs) q ≡ Some (held x.content)

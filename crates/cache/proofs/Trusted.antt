@@ -1,8 +1,8 @@
 -- The copies stay true: what put, get and drop leave of them agrees with the store below.
-use Rattle.std.proofs.Common.{◌≡◌, ℕ, zero, suc, ◌≤◌, true, false, not, eqb, leb, List, [], ◌∷◌, length, take, is_some, IfOk, Some, None, Err, Option, Result, sym, refl, ap, ◌∙◌, subst, arith}
+use Rattle.std.proofs.Common.{◌≡◌, ℕ, zero, suc, true, false, not, eqb, leb, List, [], ◌∷◌, length, take, is_some, IfOk, Some, None, Option, Result, sym, refl, ap, ◌∙◌, subst, arith}
 use Rattle.std.specs.Option.{option_map}
 use Rattle.std.specs.Str.{bytes_eq}
-use Rattle.std.proofs.lemmas.Bool.{true≢false, and_parts, and_from, not-true, not_from_false, ne_eqb, cond-false, leb-true}
+use Rattle.std.proofs.lemmas.Bool.{true≢false, and_parts, and_from, not-true, not_from_false}
 use Rattle.names.specs.declared.refusal.Refusal.{Refusal}
 use Rattle.names.specs.declared.refusal.Refusal.TheVariants.{NotAName, SourceTooLong, TooManyImports, TooManyUnits, NoSuchUnit, TooManyRows, ImportMissing, ImportCircle, Faulty, StoreFull, RecordTooLong, BufferTooShort, NotBuilt, ImageTooLong, EntryMissing, NotAnImage, NotAnArtifact}
 use Rattle.names.specs.Refusals.{number, answer}
@@ -10,7 +10,6 @@ use Rattle.store.specs.Pairs.{Pair, pair, lookup, has, without, once, SamePairs}
 use Rattle.store.specs.Says.{get_number, get_buffer, PutSays, GetSays}
 use Rattle.store.proofs.Pairs.{by_test, same_is, same_refl, lookup_without_other, lookup_without_same}
 use Rattle.cache.specs.Recent.{admitted, after_put, after_get, Agrees, TrueCopies}
-use Rattle.cache.proofs.Copying.{got-all}
 
 -- a front of a list
 has-take : (n : ℕ) (xs : List Pair) (q : List ℕ) → has xs q ≡ false → has (take n xs) q ≡ false
@@ -121,11 +120,6 @@ refused_number (EntryMissing unit reference) h = omega arith
 refused_number NotAnImage h = omega arith
 refused_number NotAnArtifact h = omega arith
 
-pub put_refused : {T : Type 0} (r : Result T Refusal) (e : Refusal) (q bs : List ℕ) (xs : List Pair) → r ≡ Err e → after_put (answer r) q bs xs ≡ xs
-put_refused r e q bs xs is =
-    let no_zero : eqb (number e) 0 ≡ false = ne_eqb (number e) 0 (refused_number e) in
-    ap (λ (n : ℕ). after_put n q bs xs) (ap answer is) ∙ cond-false (eqb (number e) 0) (admitted q bs xs) xs no_zero
-
 -- a name with a copy has the copy's record below
 pub same_below : (xs ps : List Pair) (q : List ℕ) → Agrees xs ps → is_some (lookup xs q) ≡ true → lookup ps q ≡ lookup xs q
 same_below xs ps q a h = by_found (lookup xs q) refl h
@@ -137,14 +131,6 @@ same_below xs ps q a h = by_found (lookup xs q) refl h
 pub refused_found : (o : Option (List ℕ)) (e : Refusal) (room : ℕ) → number e ≡ get_number o room → is_some o ≡ true
 refused_found None e room h = absurd (refused_number e h)
 refused_found (Some v) e room h = refl
-
-pub told-found : (o : Option (List ℕ)) (n : ℕ) → Some n ≡ option_map length o → is_some o ≡ true
-told-found None n h = let z : ◌≡◌ {A = ℕ} 0 1 = cc in absurd (omega arith)
-told-found (Some v) n h = refl
-
-pub told_none : (o : Option (List ℕ)) → None ≡ option_map length o → o ≡ None
-told_none None h = refl
-told_none (Some v) h = let z : ◌≡◌ {A = ℕ} 0 1 = cc in absurd (omega arith)
 
 -- after a get that was asked of the copies
 pub recall_true : (room : ℕ) (q : List ℕ) (xs ps : List Pair) → TrueCopies xs ps → TrueCopies (after_get (lookup xs q) room q xs) ps
@@ -164,13 +150,3 @@ hit_says xs ps q buffer buffer' r a h o t f =
       filled = f ∙ ap (λ (x : Option (List ℕ)). get_buffer x buffer) e;
       pairs = refl;
     }
-
-pub hit_kept : (xs ys ps : List Pair) (q : List ℕ) (room : ℕ) → Agrees xs ps → is_some (lookup xs q) ≡ true → ys ≡ after_get (lookup xs q) room q xs → ys ≡ after_get (lookup ps q) room q xs
-hit_kept xs ys ps q room a h e = e ∙ ap (λ (x : Option (List ℕ)). after_get x room q xs) (sym (same_below xs ps q a h))
-
-pub within_some : (o : Option (List ℕ)) (n room : ℕ) → Some n ≡ option_map length o → 0 ≡ get_number o room → n ≤ room
-within_some None n room e z = let x : ◌≡◌ {A = ℕ} 0 1 = cc in absurd (omega arith)
-within_some (Some bs) n room e z =
-    let m : n ≡ length bs = (let k : Some n ≡ Some (length bs) = e in cc) in
-    let l = leb-true (length bs) room (got-all bs room z) in
-    omega arith

@@ -12,6 +12,7 @@ use area::layout::LONGEST;
 use bounded::Bounded;
 use names::{Name, Refusal};
 use std::alloc::{AllocError, Global};
+use store::copy_out;
 
 // How many copies are held.
 pub const PLACES: usize = 4;
@@ -23,7 +24,7 @@ impl Copies {
     {
         let latest = Vec::with_capacity(heap, PLACES)?;
         let mut spare = Vec::with_capacity(heap, PLACES)?;
-        while spare.len() < PLACES {
+        for _ in 0..PLACES {
             spare.push_reserved(Bounded::open(heap)?);
         }
         Ok(Copies { latest, spare })
@@ -33,24 +34,16 @@ impl Copies {
     pub(crate) fn find(&self, name: Name) -> Option<usize>
         ensures { MatchOption result (has (kept self.now) name.bytes ≡ false) (λ i. PlaceOf (kept self.now) name.bytes i) }
     {
-        for (i, copied) in self.latest.iter().enumerate() {
-            if copied.name == name {
-                return Some(i);
-            }
-        }
-        None
+        self.latest.iter().position(|copied| copied.name == name)
     }
 
     // Lets the name's copy go.
     pub(crate) fn forget(&mut self, name: Name)
         ensures { kept self.new ≡ without name.bytes (kept self.old) }
     {
-        match self.find(name) {
-            Some(i) => {
-                let Copied { name: _, content } = self.latest.remove(i);
-                self.spare.push_reserved(content);
-            }
-            None => {}
+        if let Some(i) = self.find(name) {
+            let Copied { name: _, content } = self.latest.remove(i);
+            self.spare.push_reserved(content);
         }
     }
 
@@ -65,7 +58,8 @@ impl Copies {
         let mut content = free_place(&mut self.latest, &mut self.spare);
         content.clear();
         let _ = content.extend(bytes);
-        let _ = self.latest.insert(0, Copied { name, content });
+        self.latest.push_reserved(Copied { name, content });
+        self.latest.rotate_right(1);
     }
 
     // Copies the name's copy to the buffer's start and makes it the latest; none where the name has no copy.
@@ -89,7 +83,8 @@ impl Copies {
         ensures { kept self.new ≡ to_front i (kept self.old) }
     {
         let copied = self.latest.remove(i);
-        let _ = self.latest.insert(0, copied);
+        self.latest.push_reserved(copied);
+        self.latest.rotate_right(1);
     }
 }
 
@@ -111,19 +106,4 @@ fn free_place(
             content
         }
     }
-}
-
-// Copies bytes to the buffer's start; refused (43) if the buffer is shorter.
-fn copy_out(bytes: &[u8], buffer: &mut [u8]) -> Result<usize, Refusal>
-    ensures outcome { answer result ≡ get_number (Some bytes.now) (length buffer.old) }
-    ensures told { IfOk result (λ n. n ≡ length bytes.now) }
-    ensures filled { buffer.new ≡ get_buffer (Some bytes.now) buffer.old }
-    ensures short { OnErr result (length buffer.old < length bytes.now) }
-{
-    let n = bytes.len();
-    if buffer.len() < n {
-        return Err(Refusal::BufferTooShort);
-    }
-    buffer[0..n].copy_from_slice(bytes);
-    Ok(n)
 }

@@ -46,19 +46,20 @@ pub glue : (bs a cs t rest : List ℕ) → bs ≡ a ++ cs → cs ≡ t ++ rest �
 glue bs a cs t rest e f = e ∙ ap (λ xs. a ++ xs) f ∙ sym (append_assoc a t rest)
 
 module _ {X : Type 0} where
-  abbrev of_some : X × List ℕ → Option (X × List ℕ) → X × List ℕ
-  of_some d None = d
-  of_some d (Some p) = p
-
   pub some_first : (x y : X) (bs cs : List ℕ) → ◌≡◌ {A = Option (X × List ℕ)} (Some (x, bs)) (Some (y, cs)) → x ≡ y
-  some_first x y bs cs e = λ i. (of_some (x, bs) (e i)).0
+  some_first x y bs cs e = let p : ◌≡◌ {A = X × List ℕ} (x, bs) (y, cs) = cc in ap (λ q. q.0) p
 
   pub some_rest : (x y : X) (bs cs : List ℕ) → ◌≡◌ {A = Option (X × List ℕ)} (Some (x, bs)) (Some (y, cs)) → bs ≡ cs
-  some_rest x y bs cs e = λ i. (of_some (x, bs) (e i)).1
+  some_rest x y bs cs e = let p : ◌≡◌ {A = X × List ℕ} (x, bs) (y, cs) = cc in ap (λ q. q.1) p
 
   pub passing_some : (t : Bool) (x y : X) (bs cs : List ℕ) → passing t x bs ≡ Some (y, cs) → (t ≡ true) × (x ≡ y) × (bs ≡ cs)
   passing_some true x y bs cs e = (refl, some_first x y bs cs e, some_rest x y bs cs e)
   passing_some false x y bs cs e = cc
+
+-- a test that passed
+pub passed : {Y : Type 0} (t : Bool) (o : Option Y) (y : Y) → cond t o None ≡ Some y → (t ≡ true) × (o ≡ Some y)
+passed true o y e = (refl, e)
+passed false o y e = cc
 
 byte_only : (bs : List ℕ) (x : ℕ) (rest : List ℕ) → get_byte bs ≡ Some (x, rest) → (bs ≡ x ∷ rest) × (x < 256)
 byte_only [] x rest e = cc
@@ -240,14 +241,10 @@ module _ {X : Type 0} (f : Format X) (P : X → Type 0) (law : Lawful f P) where
         ∙ ap (λ t. cond t (many (length xs) f.get (each f.put xs ++ rest)) None) (le-leb (length xs) limit h.0)
         ∙ many_back xs h.1 rest
 
-    within_some : (t : Bool) (o : Option (List X × List ℕ)) (xs : List X) (rest : List ℕ) → cond t o None ≡ Some (xs, rest) → (t ≡ true) × (o ≡ Some (xs, rest))
-    within_some true o xs rest e = (refl, e)
-    within_some false o xs rest e = cc
-
     listed_only : (bs : List ℕ) (xs : List X) (rest : List ℕ) → (listed count limit f).get bs ≡ Some (xs, rest) → (bs ≡ (listed count limit f).put xs ++ rest) × ((length xs ≤ limit) × AllByRecursion P xs)
     listed_only bs xs rest e =
         let a = seq_only count C counts behind_count bs xs rest e in
-        let b = within_some (leb a.0 limit) (many a.0 f.get a.1) xs rest a.4 in
+        let b = passed (leb a.0 limit) (many a.0 f.get a.1) (xs, rest) a.4 in
         let c = many_only a.0 a.1 xs rest b.1 in
         (glue bs (count.put (length xs)) a.1 (each f.put xs) rest (a.2 ∙ ap (λ n. count.put n ++ a.1) (sym c.2)) c.0, (subst (λ n. n ≤ limit) (sym c.2) (leb-true a.0 limit b.0), c.1))
 

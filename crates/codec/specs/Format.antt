@@ -1,6 +1,7 @@
 -- How values are written as bytes, and read back.
 use Rattle.std.specs.Prelude.{◌≡◌, ℕ, zero, suc, ◌+◌, ◌*◌, ◌/◌, ◌%◌, Bool, true, false, cond, List, [], ◌∷◌, ◌++◌, length, take, drop, ℤ, Some, None, Ok, Err, Option, Result, ◌==◌, nat_le, nat_lt, refl}
 use Rattle.std.specs.Int.{w32}
+use Rattle.std.specs.List.{flat_map}
 use Rattle.std.proofs.Common.{of_z, to_z}
 use Rattle.names.specs.Spelling.{padded_name}
 use Rattle.names.specs.declared.name.Name.{Name}
@@ -84,8 +85,7 @@ filled (Err e) x bs = None
 
 -- the bytes of each element, one behind the other
 abbrev pub each : {X : Type 0} → (X → List ℕ) → List X → List ℕ
-each put [] = []
-each put (x ∷ xs) = put x ++ each put xs
+each = flat_map
 
 -- a section: a count, then so many elements, within a limit
 abbrev pub listed : {X : Type 0} → Format ℕ → ℕ → Format X → Format (List X)

@@ -50,7 +50,7 @@ impl Count for u8 {
     ghost limit = { 256 };
 
     fn read_count(input: &mut Input<'_>) -> Result<usize, Malformed> {
-        Ok(usize::from(input.byte()?))
+        Ok(usize::from(u8::read(input)?))
     }
 
     fn append_count<S: Sink>(n: usize, out: &mut S) {
@@ -66,7 +66,7 @@ impl Count for u16 {
     ghost limit = { 65536 };
 
     fn read_count(input: &mut Input<'_>) -> Result<usize, Malformed> {
-        Ok(usize::from(input.pair()?))
+        Ok(usize::from(u16::read(input)?))
     }
 
     fn append_count<S: Sink>(n: usize, out: &mut S) {

@@ -12,7 +12,8 @@ impl Field for u8 {
     ghost format = { byte };
 
     fn read(input: &mut Input<'_>) -> Result<u8, Malformed> {
-        input.byte()
+        let [b] = input.bytes::<1>()?;
+        Ok(b)
     }
 
     fn append<S: Sink>(&self, out: &mut S) {
@@ -24,7 +25,7 @@ impl Field for u16 {
     ghost format = { pair };
 
     fn read(input: &mut Input<'_>) -> Result<u16, Malformed> {
-        input.pair()
+        Ok(u16::from_be_bytes(input.bytes()?))
     }
 
     fn append<S: Sink>(&self, out: &mut S) {
@@ -36,7 +37,7 @@ impl Field for i32 {
     ghost format = { value };
 
     fn read(input: &mut Input<'_>) -> Result<i32, Malformed> {
-        input.value()
+        Ok(i32::from_be_bytes(input.bytes()?))
     }
 
     fn append<S: Sink>(&self, out: &mut S) {
@@ -48,7 +49,8 @@ impl Field for Name {
     ghost format = { name };
 
     fn read(input: &mut Input<'_>) -> Result<Name, Malformed> {
-        input.name()
+        let name = Name::from_padded(input.bytes()?)?;
+        Ok(name)
     }
 
     fn append<S: Sink>(&self, out: &mut S) {
@@ -60,10 +62,10 @@ impl Field for Row {
     ghost format = { row };
 
     fn read(input: &mut Input<'_>) -> Result<Row, Malformed> {
-        let name = input.name()?;
-        let kind = input.byte()?;
-        let value = input.value()?;
-        let line = input.pair()?;
+        let name = Name::read(input)?;
+        let kind = u8::read(input)?;
+        let value = i32::read(input)?;
+        let line = u16::read(input)?;
         Ok(Row {
             name,
             kind,
@@ -84,8 +86,8 @@ impl Field for Reference {
     ghost format = { reference };
 
     fn read(input: &mut Input<'_>) -> Result<Reference, Malformed> {
-        let position = input.byte()?;
-        let entry = input.byte()?;
+        let position = u8::read(input)?;
+        let entry = u8::read(input)?;
         Ok(Reference { position, entry })
     }
 

@@ -18,5 +18,5 @@ pub use count::Count;
 pub use field::Field;
 pub use input::Input;
 pub use malformed::Malformed;
-pub use section::{all_below, append_list};
+pub use section::all_below;
 pub use sink::Sink;

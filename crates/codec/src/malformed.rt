@@ -3,6 +3,8 @@ ghost use Rattle.std.specs.Prelude.{◌≡◌, is_ok};
 
 use bounded::Full;
 use names::Refusal;
+use std::error::Error;
+use std::fmt;
 
 #[derive(Clone, Copy, Debug, PartialEq, Eq)]
 pub struct Malformed;
@@ -15,6 +17,14 @@ impl Malformed {
         passed.then_some(()).ok_or(Malformed)
     }
 }
+
+impl fmt::Display for Malformed {
+    fn fmt<W: fmt::Write>(&self, f: &mut fmt::Formatter<W>) -> fmt::Result {
+        f.write_str("the bytes are of another form")
+    }
+}
+
+impl Error for Malformed {}
 
 // A name of another form.
 impl From<Refusal> for Malformed {

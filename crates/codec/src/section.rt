@@ -28,7 +28,7 @@ pub(crate) fn read_list<T: Field + Drop, const N: usize>(
 }
 
 // Puts elements, one behind the other, where they have room.
-pub fn append_list<T: Field, S: Sink>(xs: &[T], out: &mut S)
+pub(crate) fn append_list<T: Field, S: Sink>(xs: &[T], out: &mut S)
     ensures { S.Sink.Takes out.old (each T.Field.format.put xs.now) out.new }
 {
     for x in xs {

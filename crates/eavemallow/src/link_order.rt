@@ -13,9 +13,8 @@ pub fn run(rt: &HostRuntime, args: &[String]) -> anyhow::Result<()> {
     match links.check(&project) {
         Ok(_) => names(rt, &project, &links),
         Err(refusal) => {
-            let remedy = refusal.remedy();
             println!(rt; "{refusal}")?;
-            println!(rt; "{remedy}")?;
+            println!(rt; "{}", refusal.remedy())?;
             Err(anyhow!("the project cannot be linked"))
         }
     }
@@ -23,10 +22,12 @@ pub fn run(rt: &HostRuntime, args: &[String]) -> anyhow::Result<()> {
 
 // The names of the units, one a line.
 fn names(rt: &HostRuntime, project: &Project, links: &Links) -> anyhow::Result<()> {
-    for place in links.places() {
-        if let Some(name) = project.name(*place) {
-            println!(rt; "{name}")?;
-        }
+    for name in links
+        .places()
+        .iter()
+        .filter_map(|place| project.name(*place))
+    {
+        println!(rt; "{name}")?;
     }
     Ok(())
 }

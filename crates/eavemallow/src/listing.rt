@@ -1,92 +1,70 @@
 // Reads a listing and puts its units into a project.
 use crate::files;
-use anyhow::anyhow;
+use crate::lines::Line;
 use names::Name;
 use project::Project;
+
+const WRONG: &str = "the listing is wrong";
 
 // The project that a listing names. A line that is wrong is told, and then there is no project.
 pub fn load(rt: &HostRuntime, path: &str) -> anyhow::Result<Project> {
     let mut project = Project::open(rt.alloc())?;
     let text = files::text(rt, path)?;
-    let mut number = 0usize;
-    for line in text.lines() {
-        number = number.saturating_add(1);
-        if let Some(word) = words::word(line.as_bytes(), 0) {
-            unit(rt, &mut project, path, number, line.as_bytes(), word)?;
+    for (number, text) in (1..usize::MAX).zip(text.lines()) {
+        let line = Line { path, number, text };
+        if let Some(word) = line.word(0) {
+            unit(rt, &mut project, &line, word)?;
         }
     }
     Ok(project)
-}
-
-fn wrong<T>(rt: &HostRuntime, path: &str, number: usize, what: &str) -> anyhow::Result<T> {
-    eprintln!(rt; "{path}:{number}: {what}")?;
-    Err(anyhow!("the listing is wrong"))
 }
 
 // One line: NAME SOURCEFILE [IMPORT ..].
 fn unit(
     rt: &HostRuntime,
     project: &mut Project,
-    path: &str,
-    number: usize,
-    line: &[u8],
+    line: &Line<'_>,
     word: &[u8],
 ) -> anyhow::Result<()> {
-    let name = name(rt, path, number, word)?;
+    let name = name(rt, line, word)?;
     if project.find(name).is_some() {
-        return wrong(rt, path, number, "there is a unit of this name above");
+        return line.wrong(rt, "there is a unit of this name above", WRONG);
     }
-    let Some(file) = words::word(line, 1) else {
-        return wrong(
-            rt,
-            path,
-            number,
-            "a unit needs a source file behind its name",
-        );
+    let Some(file) = line.word(1) else {
+        return line.wrong(rt, "a unit needs a source file behind its name", WRONG);
     };
-    let source = source(rt, path, number, file)?;
-    let imports = imports(rt, path, number, line)?;
+    let source = source(rt, line, file)?;
+    let imports = imports(rt, line)?;
     match project.put(name, imports.as_slice(), source.as_slice()) {
         Ok(_) => Ok(()),
-        Err(refusal) => {
-            let remedy = refusal.remedy();
-            eprintln!(rt; "{path}:{number}: {refusal}: {remedy}")?;
-            Err(anyhow!("a unit is refused"))
-        }
+        Err(refusal) => line.refused(rt, refusal, "a unit is refused"),
     }
 }
 
-fn name(rt: &HostRuntime, path: &str, number: usize, word: &[u8]) -> anyhow::Result<Name> {
+fn name(rt: &HostRuntime, line: &Line<'_>, word: &[u8]) -> anyhow::Result<Name> {
     match Name::from_text(word) {
         Ok(name) => Ok(name),
-        Err(refusal) => {
-            let remedy = refusal.remedy();
-            eprintln!(rt; "{path}:{number}: {refusal}: {remedy}")?;
-            Err(anyhow!("no name"))
-        }
+        Err(refusal) => line.refused(rt, refusal, "no name"),
     }
 }
 
 // The bytes of a source file.
-fn source(rt: &HostRuntime, path: &str, number: usize, file: &[u8]) -> anyhow::Result<Vec<u8>> {
+fn source(rt: &HostRuntime, line: &Line<'_>, file: &[u8]) -> anyhow::Result<Vec<u8>> {
     let Ok(file) = std::str::from_utf8(file) else {
-        return wrong(rt, path, number, "the source file's name is no text");
+        return line.wrong(rt, "the source file's name is no text", WRONG);
     };
-    let found = files::beside(rt, path, file)?;
+    let found = files::beside(rt, line.path, file)?;
     match files::bytes(rt, found.as_str()) {
         Ok(bytes) => Ok(bytes),
-        Err(_) => wrong(rt, path, number, "its source file cannot be read"),
+        Err(_) => line.wrong(rt, "its source file cannot be read", WRONG),
     }
 }
 
 // The words behind the source file, as names.
-fn imports(rt: &HostRuntime, path: &str, number: usize, line: &[u8]) -> anyhow::Result<Vec<Name>> {
+fn imports(rt: &HostRuntime, line: &Line<'_>) -> anyhow::Result<Vec<Name>> {
     let mut imports = Vec::new(rt.alloc());
-    for place in 2..line.len() {
-        let Some(word) = words::word(line, place) else {
-            break;
-        };
-        imports.push(name(rt, path, number, word)?)?;
+    for word in (2..usize::MAX).map_while(|place| line.word(place)) {
+        imports.push(name(rt, line, word)?)?;
     }
     Ok(imports)
 }

@@ -3,9 +3,11 @@
 
 mod files;
 mod instructions;
+mod lines;
 mod link_order;
 mod listing;
 mod picture;
+mod print;
 mod script;
 mod show;
 mod store_run;
@@ -27,22 +29,15 @@ fn main(rt: HostRuntime) -> anyhow::Result<()> {
 }
 
 fn run(rt: &HostRuntime, word: &str, rest: &[String]) -> anyhow::Result<()> {
-    if word == "order" {
-        return link_order::run(rt, rest);
-    }
-    if word == "translate" {
-        return translate::run(rt, rest);
-    }
-    if word == "show" {
-        return show::run(rt, rest);
-    }
-    if word == "store" {
-        return store_run::run(rt, rest);
-    }
-    usage::print(rt)?;
-    if word == "help" {
-        Ok(())
-    } else {
-        Err(anyhow!("no such word"))
+    match word {
+        "order" => link_order::run(rt, rest),
+        "translate" => translate::run(rt, rest),
+        "show" => show::run(rt, rest),
+        "store" => store_run::run(rt, rest),
+        "help" => usage::print(rt),
+        _ => {
+            usage::print(rt)?;
+            Err(anyhow!("no such word"))
+        }
     }
 }

@@ -8,32 +8,16 @@ use store::Store;
 
 // The records of a slot store, slot by slot.
 pub fn slots(rt: &HostRuntime, slots: &SlotStore) -> anyhow::Result<()> {
-    let rows = slots.capacity();
-    for (i, piece) in slots.area().chunks(SLOT).enumerate() {
-        if i < rows {
-            record(rt, i.saturating_mul(SLOT), piece)?;
-        }
+    for (i, piece) in slots.area().chunks(SLOT).take(slots.capacity()).enumerate() {
+        record(rt, i.saturating_mul(SLOT), piece)?;
     }
     Ok(())
 }
 
 // The records of a log, one behind the other.
 pub fn log(rt: &HostRuntime, log: &LogStore) -> anyhow::Result<()> {
-    let area = log.area();
-    let end = log.end();
-    if end > area.len() {
-        return Ok(());
-    }
-    let mut rest = &area[0..end];
-    let mut at = 0usize;
-    for _ in 0..end {
-        if rest.len() < HEADER {
-            break;
-        }
-        record(rt, at, rest)?;
-        let size = HEADER.saturating_add(length_of(rest)).min(rest.len());
-        at = at.saturating_add(size);
-        rest = &rest[size..];
+    for (at, piece) in log.records() {
+        record(rt, at, piece)?;
     }
     Ok(())
 }
@@ -49,7 +33,6 @@ fn record(rt: &HostRuntime, at: usize, piece: &[u8]) -> anyhow::Result<()> {
         return Ok(());
     };
     let mark = if is_live(piece) { "live" } else { "dead" };
-    let length = length_of(piece);
-    println!(rt; "{at} {mark} {name} {length}")?;
+    println!(rt; "{at} {mark} {name} {}", length_of(piece))?;
     Ok(())
 }

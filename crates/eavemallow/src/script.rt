@@ -1,30 +1,26 @@
 // Scripts of calls on a store: a call a line, and its answer.
 ghost use Rattle.std.specs.Prelude.{◌<◌, IfSome};
 
-use anyhow::anyhow;
+use crate::lines::Line;
 use area::layout::{LONGEST, ROWS, SLOT};
 use names::Name;
 use store::{Answer, Call, Store};
 
-fn wrong<T>(rt: &HostRuntime, path: &str, number: usize, what: &str) -> anyhow::Result<T> {
-    eprintln!(rt; "{path}:{number}: {what}")?;
-    Err(anyhow!("the script is wrong"))
-}
+const WRONG: &str = "the script is wrong";
 
 // The length of the area that the script asks for, or that of the most rows.
 pub fn area(rt: &HostRuntime, path: &str, text: &str) -> anyhow::Result<usize> {
-    let mut number = 0usize;
-    for line in text.lines() {
-        number = number.saturating_add(1);
-        let line = line.as_bytes();
-        if let Some(word) = words::word(line, 0) {
-            if word[..] != b"area"[..] {
-                break;
+    for (number, text) in (1..usize::MAX).zip(text.lines()) {
+        let line = Line { path, number, text };
+        match line.word(0) {
+            None => {}
+            Some(b"area") => {
+                let Some(length) = count(&line, 1) else {
+                    return line.wrong(rt, "area takes a number of bytes", WRONG);
+                };
+                return Ok(length);
             }
-            let Some(length) = count(line, 1) else {
-                return wrong(rt, path, number, "area takes a number of bytes");
-            };
-            return Ok(length);
+            Some(_) => break,
         }
     }
     Ok(ROWS * SLOT)
@@ -37,15 +33,17 @@ pub fn run<S: Store>(
     path: &str,
     text: &str,
 ) -> anyhow::Result<()> {
-    let mut number = 0usize;
-    for line in text.lines() {
-        number = number.saturating_add(1);
-        let bytes = line.as_bytes();
-        if let Some(word) = words::word(bytes, 0) {
-            if word[..] != b"area"[..] {
-                let call = call(rt, path, number, bytes, word)?;
-                let room = count(bytes, 2).unwrap_or(LONGEST);
-                print!(rt; "{line}: ")?;
+    for (number, text) in (1..usize::MAX).zip(text.lines()) {
+        let line = Line { path, number, text };
+        match line.word(0) {
+            None | Some(b"area") => {}
+            Some(word) => {
+                let call = call(rt, &line, word)?;
+                let room = match &call {
+                    Call::Get { .. } => count(&line, 2).unwrap_or(LONGEST),
+                    _ => 0,
+                };
+                print!(rt; "{text}: ")?;
                 answer(rt, store, &call, room)?;
             }
         }
@@ -60,19 +58,15 @@ fn answer<S: Store>(
     call: &Call,
     room: usize,
 ) -> anyhow::Result<()> {
-    let room = match call {
-        Call::Get { .. } => room,
-        _ => 0,
-    };
     let mut buffer = vec![in rt.alloc(); 0u8; room]?;
     match store::act(store, call, buffer.as_mut_slice()) {
-        Answer::Done => println!(rt; "done")?,
-        Answer::Nothing => println!(rt; "none")?,
-        Answer::Refused(n) => println!(rt; "refused {n}")?,
-        Answer::Found(n) => {
+        Ok(Answer::Done) => println!(rt; "done")?,
+        Ok(Answer::Nothing) => println!(rt; "none")?,
+        Ok(Answer::Found(n)) => {
             print!(rt; "done length {n} ")?;
             hex(rt, buffer.as_slice(), n)?;
         }
+        Err(refusal) => println!(rt; "refused {}", refusal.number())?,
     }
     Ok(())
 }
@@ -80,7 +74,6 @@ fn answer<S: Store>(
 // The first n bytes, in hexadecimal.
 fn hex(rt: &HostRuntime, bytes: &[u8], n: usize) -> anyhow::Result<()> {
     for byte in bytes.iter().take(n) {
-        let byte = *byte;
         print!(rt; "{byte:02x}")?;
     }
     if n == 0 {
@@ -91,39 +84,30 @@ fn hex(rt: &HostRuntime, bytes: &[u8], n: usize) -> anyhow::Result<()> {
 }
 
 // The call of a line.
-fn call(
-    rt: &HostRuntime,
-    path: &str,
-    number: usize,
-    line: &[u8],
-    word: &[u8],
-) -> anyhow::Result<Call> {
-    let Some(text) = words::word(line, 1) else {
-        return wrong(rt, path, number, "a call names a record");
+fn call(rt: &HostRuntime, line: &Line<'_>, word: &[u8]) -> anyhow::Result<Call> {
+    let Some(text) = line.word(1) else {
+        return line.wrong(rt, "a call names a record", WRONG);
     };
-    let name = match Name::from_text(text) {
-        Ok(name) => name,
-        Err(_) => return wrong(rt, path, number, "this is no name"),
+    let Ok(name) = Name::from_text(text) else {
+        return line.wrong(rt, "this is no name", WRONG);
     };
-    if word[..] == b"get"[..] {
-        return Ok(Call::Get { name });
+    match word {
+        b"get" => Ok(Call::Get { name }),
+        b"drop" => Ok(Call::Drop { name }),
+        b"put" => {
+            let Some(text) = line.word(2) else {
+                return line.wrong(rt, "put takes a record in hexadecimal, or -", WRONG);
+            };
+            let bytes = content(rt, line, text)?;
+            Ok(Call::Put { name, bytes })
+        }
+        _ => line.wrong(rt, "a call is put, get or drop", WRONG),
     }
-    if word[..] == b"drop"[..] {
-        return Ok(Call::Drop { name });
-    }
-    if word[..] == b"put"[..] {
-        let Some(text) = words::word(line, 2) else {
-            return wrong(rt, path, number, "put takes a record in hexadecimal, or -");
-        };
-        let bytes = content(rt, path, number, text)?;
-        return Ok(Call::Put { name, bytes });
-    }
-    wrong(rt, path, number, "a call is put, get or drop")
 }
 
 // The number in a word of the line.
-fn count(line: &[u8], place: usize) -> Option<usize> {
-    number(words::word(line, place)?)
+fn count(line: &Line<'_>, place: usize) -> Option<usize> {
+    number(line.word(place)?)
 }
 
 fn number(word: &[u8]) -> Option<usize> {
@@ -131,23 +115,23 @@ fn number(word: &[u8]) -> Option<usize> {
 }
 
 // The bytes of a record: - for none, LENGTH*HH for a run of one byte, else two digits a byte.
-fn content(rt: &HostRuntime, path: &str, line: usize, text: &[u8]) -> anyhow::Result<Vec<u8>> {
+fn content(rt: &HostRuntime, line: &Line<'_>, text: &[u8]) -> anyhow::Result<Vec<u8>> {
     let mut bytes = Vec::new(rt.alloc());
-    if text[..] == b"-"[..] {
+    if let b"-" = text {
         return Ok(bytes);
     }
     if let [front @ .., b'*', high, low] = text {
         let (Some(length), Some(byte)) = (number(front), pair(*high, *low)) else {
-            return wrong(rt, path, line, "a run is LENGTH*HH");
+            return line.wrong(rt, "a run is LENGTH*HH", WRONG);
         };
         return Ok(vec![in rt.alloc(); byte; length]?);
     }
     for digits in text.chunks(2) {
         let [high, low] = digits else {
-            return wrong(rt, path, line, "two hexadecimal digits make a byte");
+            return line.wrong(rt, "two hexadecimal digits make a byte", WRONG);
         };
         let Some(byte) = pair(*high, *low) else {
-            return wrong(rt, path, line, "this is no hexadecimal digit");
+            return line.wrong(rt, "this is no hexadecimal digit", WRONG);
         };
         bytes.push(byte)?;
     }

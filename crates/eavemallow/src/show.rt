@@ -1,5 +1,5 @@
 // The word `show`: what an image or an artifact holds, as a link map.
-use crate::{files, instructions, usage};
+use crate::{files, instructions, print, usage};
 use anyhow::anyhow;
 use artifact::Artifact;
 use image::Image;
@@ -21,23 +21,16 @@ fn wrong(rt: &HostRuntime) -> anyhow::Result<()> {
 
 // The flag may stand before or behind the file.
 fn chosen(rt: &HostRuntime, first: &str, second: &str) -> anyhow::Result<()> {
-    if first == "--image" {
-        image(rt, second)
-    } else if second == "--image" {
-        image(rt, first)
-    } else if first == "--artifact" {
-        artifact(rt, second)
-    } else if second == "--artifact" {
-        artifact(rt, first)
-    } else {
-        wrong(rt)
+    match (first, second) {
+        ("--image", path) | (path, "--image") => image(rt, path),
+        ("--artifact", path) | (path, "--artifact") => artifact(rt, path),
+        _ => wrong(rt),
     }
 }
 
 // Why a file is not what it was taken for.
 fn tell(rt: &HostRuntime, path: &str, refusal: Refusal) -> anyhow::Result<()> {
-    let remedy = refusal.remedy();
-    println!(rt; "{path}: {refusal}: {remedy}")?;
+    println!(rt; "{path}: {refusal}: {}", refusal.remedy())?;
     Ok(())
 }
 
@@ -85,13 +78,14 @@ fn artifact(rt: &HostRuntime, path: &str) -> anyhow::Result<()> {
 
 // The link map: units with their code, then entries, then references.
 fn map(rt: &HostRuntime, found: &Image) -> anyhow::Result<()> {
-    let size = found.size();
-    let count = found.names().len();
-    println!(rt; "image of {count} units, {size} bytes")?;
+    println!(rt;
+        "image of {} units, {} bytes",
+        found.names().len(),
+        found.size()
+    )?;
     for (unit, name) in found.names().iter().enumerate() {
         let code = found.code(unit);
-        let long = code.len();
-        println!(rt; "unit {name}, {long} bytes of code")?;
+        println!(rt; "unit {name}, {} bytes of code", code.len())?;
         hex(rt, code)?;
         instructions::print(rt, code)?;
     }
@@ -102,9 +96,8 @@ fn map(rt: &HostRuntime, found: &Image) -> anyhow::Result<()> {
     }
     for (unit, name) in found.names().iter().enumerate() {
         for target in found.references(unit) {
-            let entry = target.entry;
             match found.names().get(usize::from(target.unit)) {
-                Some(there) => println!(rt; "reference {name} {there} {entry}")?,
+                Some(there) => println!(rt; "reference {name} {there} {}", target.entry)?,
                 None => println!(rt; "reference {name} to no unit")?,
             }
         }
@@ -112,29 +105,26 @@ fn map(rt: &HostRuntime, found: &Image) -> anyhow::Result<()> {
     Ok(())
 }
 
-// The bytes in hex, one line.
+// The bytes in hexadecimal on a line of their own, if there are any.
 fn hex(rt: &HostRuntime, code: &[u8]) -> anyhow::Result<()> {
     if code.is_empty() {
         return Ok(());
     }
     print!(rt; "  ")?;
-    for b in code {
-        print!(rt; "{b:02X}")?;
-    }
-    println!(rt; "")?;
-    Ok(())
+    print::hex(rt, code)
 }
 
 // The parts of an artifact: source, interfaces of the imports, product.
 fn parts(rt: &HostRuntime, record: &Artifact) -> anyhow::Result<()> {
     let source = record.source.as_slice();
-    let long = source.len();
-    let imports = record.imports().len();
-    println!(rt; "artifact, source of {long} bytes, {imports} imports")?;
+    let imports = record.imports();
+    println!(rt;
+        "artifact, source of {} bytes, {} imports",
+        source.len(),
+        imports.len()
+    )?;
     text(rt, source)?;
-    let mut position = 0usize;
-    for interface in record.imports() {
-        position = position.saturating_add(1);
+    for (position, interface) in (1..usize::MAX).zip(imports.iter()) {
         imported(rt, position, interface)?;
     }
     product(rt, &record.product)
@@ -142,66 +132,40 @@ fn parts(rt: &HostRuntime, record: &Artifact) -> anyhow::Result<()> {
 
 // The source, its lines numbered; a byte that is no plain character is shown as a point.
 fn text(rt: &HostRuntime, source: &[u8]) -> anyhow::Result<()> {
-    let mut number = 1usize;
-    let mut begun = false;
-    for b in source {
-        if !begun {
-            print!(rt; "{number:4} | ")?;
-            begun = true;
-        }
-        if *b == b'\n' {
-            println!(rt; "")?;
-            number = number.saturating_add(1);
-            begun = false;
-        } else {
-            character(rt, *b)?;
-        }
+    let whole = source.strip_suffix(b"\n").unwrap_or(source);
+    if source.is_empty() {
+        return Ok(());
     }
-    if begun {
+    for (number, line) in (1..usize::MAX).zip(whole.split(|b| *b == b'\n')) {
+        print!(rt; "{number:4} | ")?;
+        for b in line {
+            print!(rt; "{}", character(*b))?;
+        }
         println!(rt; "")?;
     }
     Ok(())
 }
 
-fn character(rt: &HostRuntime, b: u8) -> anyhow::Result<()> {
-    let shown = if b >= 32 && b < 127 { b as char } else { '.' };
-    print!(rt; "{shown}")?;
-    Ok(())
+fn character(b: u8) -> char {
+    match b {
+        32..=126 => char::from(b),
+        _ => '.',
+    }
 }
 
 fn imported(rt: &HostRuntime, position: usize, interface: &Interface) -> anyhow::Result<()> {
-    let count = interface.rows().len();
-    println!(rt; "import {position} of {count} rows")?;
+    println!(rt; "import {position} of {} rows", interface.rows().len())?;
     for row in interface.rows() {
-        let name = row.name;
-        let kind = row.kind;
-        let value = row.value;
-        let line = row.line;
-        println!(rt; "import {position} row {name} {kind} {value} {line}")?;
+        println!(rt; "import {position} row {row}")?;
     }
     Ok(())
 }
 
 fn product(rt: &HostRuntime, product: &Product) -> anyhow::Result<()> {
-    for row in product.interface.rows() {
-        let name = row.name;
-        let kind = row.kind;
-        let value = row.value;
-        let line = row.line;
-        println!(rt; "row {name} {kind} {value} {line}")?;
-    }
+    print::rows(rt, product.interface.rows())?;
     let code = product.code.as_slice();
-    let long = code.len();
-    println!(rt; "code of {long} bytes")?;
+    println!(rt; "code of {} bytes", code.len())?;
     hex(rt, code)?;
     instructions::print(rt, code)?;
-    for place in product.entries.as_slice() {
-        println!(rt; "entry {place}")?;
-    }
-    for reference in product.references.as_slice() {
-        let position = reference.position;
-        let entry = reference.entry;
-        println!(rt; "reference {position} {entry}")?;
-    }
-    Ok(())
+    print::places(rt, product)
 }

@@ -18,30 +18,30 @@ pub fn run(rt: &HostRuntime, args: &[String]) -> anyhow::Result<()> {
 
 // The script over a store of the kind.
 fn over(rt: &HostRuntime, kind: &str, area: Vec<u8>, path: &str, text: &str) -> anyhow::Result<()> {
-    if kind == "slot" {
-        let mut slots = SlotStore::open(area);
-        script::run(rt, &mut slots, path, text)?;
-        return picture::slots(rt, &slots);
+    match kind {
+        "slot" => {
+            let mut slots = SlotStore::open(area);
+            script::run(rt, &mut slots, path, text)?;
+            picture::slots(rt, &slots)
+        }
+        "log" => {
+            let mut log = LogStore::open(area);
+            script::run(rt, &mut log, path, text)?;
+            picture::log(rt, &log)
+        }
+        "cache+slot" => {
+            let mut cache = Cache::open(rt.alloc(), SlotStore::open(area))?;
+            script::run(rt, &mut cache, path, text)?;
+            picture::slots(rt, cache.below())
+        }
+        "cache+log" => {
+            let mut cache = Cache::open(rt.alloc(), LogStore::open(area))?;
+            script::run(rt, &mut cache, path, text)?;
+            picture::log(rt, cache.below())
+        }
+        _ => {
+            eprintln!(rt; "{kind}: a store is of the kind slot, log, cache+slot or cache+log")?;
+            Err(anyhow!("no such kind of store"))
+        }
     }
-    if kind == "log" {
-        let mut log = LogStore::open(area);
-        script::run(rt, &mut log, path, text)?;
-        return picture::log(rt, &log);
-    }
-    if kind == "cache+slot" {
-        let mut cache = Cache::open(rt.alloc(), SlotStore::open(area))?;
-        script::run(rt, &mut cache, path, text)?;
-        return picture::slots(rt, cache.below());
-    }
-    if kind == "cache+log" {
-        let mut cache = Cache::open(rt.alloc(), LogStore::open(area))?;
-        script::run(rt, &mut cache, path, text)?;
-        return picture::log(rt, cache.below());
-    }
-    unknown(rt, kind)
-}
-
-fn unknown(rt: &HostRuntime, kind: &str) -> anyhow::Result<()> {
-    eprintln!(rt; "{kind}: a store is of the kind slot, log, cache+slot or cache+log")?;
-    Err(anyhow!("no such kind of store"))
 }

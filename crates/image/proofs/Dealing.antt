@@ -1,7 +1,7 @@
 -- Rows of one unit more.
-use Rattle.std.proofs.Common.{◌≡◌, ℕ, suc, ◌+◌, ◌<◌, List, [], ◌∷◌, ◌++◌, map, length, get_or, take, sym, refl, ap, ◌∙◌, append_assoc, append-nil, arith, length-append, length-take}
+use Rattle.std.proofs.Common.{◌≡◌, ℕ, suc, ◌+◌, ◌<◌, List, [], ◌∷◌, ◌++◌, map, length, get_or, take, sym, ap, ◌∙◌, append_assoc, append-nil, arith, length-append, length-take}
 use lib.ListN.{length-map}
-use Rattle.std.proofs.lemmas.List.{map_more}
+use Rattle.std.proofs.lemmas.List.{map_more, flat_map_more}
 use Rattle.codec.specs.Format.{each}
 use Rattle.image.specs.Dealt.{flat, deal}
 
@@ -12,15 +12,11 @@ module _ {X : Type 0} (put : X → List ℕ) where
       ap (λ bs. each (λ x. u ∷ put x) ys ++ bs) (deal_push (suc u) yss xs ∙ ap (λ v. deal put (suc u) yss ++ each (λ x. v ∷ put x) xs) (omega arith))
       ∙ sym (append_assoc (each (λ x. u ∷ put x) ys) (deal put (suc u) yss) (each (λ x. (u + suc (length yss)) ∷ put x) xs))
 
-flat_push : {X : Type 0} (yss : List (List X)) (xs : List X) → flat (yss ++ xs ∷ []) ≡ flat yss ++ xs
-flat_push [] xs = append-nil xs
-flat_push (ys ∷ yss) xs = ap (λ zs. ys ++ zs) (flat_push yss xs) ∙ sym (append_assoc ys (flat yss) xs)
-
 -- how many rows there are with one list more
 pub flat-more : {X B : Type 0} (f : B → List X) (bs : List B) (k : ℕ) (b : B) → k < length bs → b ≡ get_or bs k b → length (flat (map f (take k bs))) + length (f b) ≡ length (flat (map f (take (k + 1) bs)))
 flat-more f bs k b h e =
     ap (λ c. length (flat (map f (take k bs))) + length (f c)) e
-    ∙ sym (ap (λ yss. length (flat yss)) (map_more f bs k b h) ∙ ap length (flat_push (map f (take k bs)) (f (get_or bs k b))) ∙ length-append (flat (map f (take k bs))) (f (get_or bs k b)))
+    ∙ sym (ap (λ yss. length (flat yss)) (map_more f bs k b h) ∙ ap length (sym (flat_map_more (λ xs. xs) [] (map f (take k bs)) (f (get_or bs k b)))) ∙ length-append (flat (map f (take k bs))) (f (get_or bs k b)))
 
 -- the bytes of all rows with one list more
 pub deal-list : {X B : Type 0} (put : X → List ℕ) (f : B → List X) (bs : List B) (k : ℕ) (b : B) → k < length bs → b ≡ get_or bs k b →

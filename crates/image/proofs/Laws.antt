@@ -4,17 +4,11 @@ use Rattle.std.specs.List.{AllByRecursion}
 use Rattle.std.proofs.lemmas.Bool.{eq-eqb, ne_eqb, eqb-true}
 use Rattle.names.specs.declared.name.Name.{Name}
 use Rattle.codec.specs.Format.{Format, next, begins, each, many, byte, pair, name, code}
-use Rattle.codec.proofs.Laws.{Lawful, next_some, seq_back, last_back, seq_only, glue, some_first, some_rest, byte_lawful, pair_lawful, name_lawful, many_back, many_only, listed_lawful, tested_lawful, lawful_as}
+use Rattle.codec.proofs.Laws.{Lawful, next_some, seq_back, last_back, seq_only, glue, some_first, some_rest, passed, byte_lawful, pair_lawful, name_lawful, many_back, many_only, listed_lawful, tested_lawful, lawful_as}
 use Rattle.image.specs.Dealt.{flat, deal, run, undeal, dealt}
 use Rattle.image.specs.Picture.{Units, target, SmallTarget, exactly, names, sections, valid, image, WithinUnits}
 use Rattle.image.specs.declared.target.Target.{Target}
 use Rattle.image.proofs.Runs.{run_other}
-
--- a test that passed
-module _ {Y : Type 0} where
-  passed : (t : Bool) (o : Option Y) (y : Y) → cond t o None ≡ Some y → (t ≡ true) × (o ≡ Some y)
-  passed true o y e = (refl, e)
-  passed false o y e = cc
 
 target_1 : ℕ → List ℕ → Option (Target × List ℕ)
 target_1 u cs = next (byte.get cs) (λ e ds. Some (record { unit = u; entry = e }, ds))

@@ -1,5 +1,6 @@
 -- Rows of several units in one section, each behind the position of its unit.
 use Rattle.std.specs.Prelude.{ℕ, zero, suc, cond, List, [], ◌∷◌, ◌++◌, map, length, Some, None, Ok, Err, Option, Result, ◌==◌}
+use Rattle.std.specs.List.{flat_map}
 use Rattle.bounded.specs.Held.{held, used}
 use Rattle.codec.specs.Format.{Format, next, each, pair}
 use Rattle.image.specs.declared.column.Column.{Column}
@@ -10,8 +11,7 @@ lists c = map held (used c.lists)
 
 -- all rows, unit after unit
 abbrev pub flat : {X : Type 0} → List (List X) → List X
-flat [] = []
-flat (xs ∷ xss) = xs ++ flat xss
+flat = flat_map (λ xs. xs)
 
 -- the bytes of all rows, from the unit at a position on
 abbrev pub deal : {X : Type 0} → (X → List ℕ) → ℕ → List (List X) → List ℕ

@@ -8,8 +8,8 @@ impl Field for Target {
     ghost format = { target };
 
     fn read(input: &mut Input<'_>) -> Result<Target, Malformed> {
-        let unit = input.byte()?;
-        let entry = input.byte()?;
+        let unit = u8::read(input)?;
+        let entry = u8::read(input)?;
         Ok(Target { unit, entry })
     }
 

@@ -15,6 +15,7 @@ impl Image {
     {
         self.clear();
         u8::read_section(input, &mut self.names)?;
+        // kept as a cast: at most 24 names stand, and no `From` leads from a `usize` to a `u8`
         let count = self.names.len() as u8;
         self.codes.read_exactly(input, count)?;
         self.entries.read_dealt(input, count)?;

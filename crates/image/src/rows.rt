@@ -19,6 +19,7 @@ fn read_run<T: Field + Drop, const N: usize>(
     ensures { run_read result (held into.new) (left input.new) ≡ run T.Field.format.get unit N rows (left input.old) }
 {
     into.clear();
+    // kept as a count: how many rows are left is the answer
     for taken in 0..rows {
         let Ok(()) = input.skip(unit) else {
             return Ok(rows - taken);
@@ -62,7 +63,7 @@ impl<T: Field + Drop, const N: usize> Column<T, N> {
         ensures few { length (used self.new.lists) ≤ units }
     {
         self.lists.clear();
-        Malformed::unless(input.byte()? == units)?;
+        Malformed::unless(u8::read(input)? == units)?;
         for _ in 0..units {
             u16::read_section(input, &mut self.next)?;
             self.lists.add(&mut self.next)?;

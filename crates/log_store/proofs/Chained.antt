@@ -1,13 +1,12 @@
 -- Records one behind the other: reading them back, marking one dead, keeping the live ones.
-use Rattle.std.proofs.Common.{◌≡◌, ℕ, zero, suc, ◌+◌, ◌*◌, ◌<◌, ◌≤◌, true, false, ◌&&◌, eqb, leb, List, [], ◌∷◌, ◌++◌, length, get_or, take, drop, Some, sym, refl, ap, ◌∙◌, append_assoc, arith, length-append, length-drop}
+use Rattle.std.proofs.Common.{◌≡◌, ℕ, zero, suc, ◌+◌, ◌*◌, ◌<◌, ◌≤◌, true, false, eqb, leb, List, [], ◌∷◌, ◌++◌, length, get_or, take, drop, sym, refl, ap, ◌∙◌, append_assoc, arith, length-append, length-drop}
 use Rattle.std.specs.Str.{bytes_eq}
 use Rattle.std.proofs.lemmas.Bool.{and_parts, and_from, eqb-true, leb-true, or_from}
-use Rattle.std.proofs.lemmas.List.{append-nil, take_at, drop_at, take-append-drop, get_or_append_left, drop-append-le, take-append-le, nil_from_length, take_rest}
-use Rattle.std.specs.List.{between}
-use Rattle.store.specs.Pairs.{Pair, pair, lookup, has}
-use Rattle.store.proofs.Pairs.{by_test, same_is, has-append, lookup-at}
+use Rattle.std.proofs.lemmas.List.{append-nil, take_at, drop_at, take-append-drop, get_or_append_left, nil_from_length}
+use Rattle.store.specs.Pairs.{Pair, pair, has}
+use Rattle.store.proofs.Pairs.{by_test, same_is, has-append}
 use Rattle.area.specs.Layout.{header_size, slot_size, live, key, size, content, holds, held}
-use Rattle.log_store.specs.Chain.{chain, records, bytes_of, exact, all_exact, log_pairs, lives, PlaceOf}
+use Rattle.log_store.specs.Chain.{chain, records, bytes_of, exact, all_exact, log_pairs, lives}
 
 -- the facts of an exact record
 pub exact_long : (p : List ℕ) → exact p ≡ true → length p ≡ header_size + (get_or p 9 0 * 256 + get_or p 10 0)
@@ -149,16 +148,6 @@ all_read xs ps at c e h l =
 pub live_front : (p r : List ℕ) → exact p ≡ true → live (p ++ r) ≡ live p
 live_front p r h = let l = exact_long p h in ap (λ (x : ℕ). eqb x 1) (get_or_append_left p r 0 0 (omega arith))
 
-key_front : (p r : List ℕ) → exact p ≡ true → key (p ++ r) ≡ key p
-key_front p r h =
-    let l = exact_long p h in
-    let a : 1 ≤ length p = omega arith in
-    let b : 8 ≤ length (drop 1 p) = simp length-drop (omega arith) in
-    ap (take 8) (drop-append-le 1 p r a) ∙ take-append-le 8 (drop 1 p) r b
-
-pub holds_front : (p r q : List ℕ) → exact p ≡ true → holds (p ++ r) q ≡ holds p q
-holds_front p r q h = λ i. live_front p r h i && bytes_eq (key_front p r h i) q
-
 pub bytes_more : (ps : List (List ℕ)) (p : List ℕ) → length (bytes_of (ps ++ p ∷ [])) ≡ length (bytes_of ps) + length p
 bytes_more ps p = ap length (bytes_append ps (p ∷ [])) ∙ length-append (bytes_of ps) (bytes_of (p ∷ [])) ∙ ap (λ (x : List ℕ). length (bytes_of ps) + length x) (append-nil p)
 
@@ -171,75 +160,8 @@ has-next ps p q h k =
     ∙ has-append (log_pairs ps) (held p) q
     ∙ or_from (has (log_pairs ps) q) (has (held p) q) h (has-held p q k)
 
--- the search for a name
-pub record Search (ps : List (List ℕ)) (q : List ℕ) (at : ℕ) : Type 0 where
-  pub cursor : Cursor ps at
-  pub none : has (log_pairs cursor.ahead) q ≡ false
-
-module _ (xs q : List ℕ) (at : ℕ) (good : all_exact (records xs) ≡ true) (s : Search (records xs) q at) (l : at < length xs) where
-  abbrev now : Here (records xs) s.cursor.ahead (drop at xs)
-  now = here xs (records xs) at s.cursor (sym (records_bytes xs)) good l
-
-  pub search_finds : holds (drop at xs) q ≡ true → PlaceOf (records xs) q at
-  search_finds h =
-      record {
-        ahead = s.cursor.ahead;
-        piece = now.piece;
-        behind = now.behind;
-        whole = now.whole;
-        place = s.cursor.place;
-        this = sym (holds_front now.piece (bytes_of now.behind) q now.good) ∙ ap (λ (x : List ℕ). holds x q) (sym now.front) ∙ h;
-        first = s.none;
-      }
-
-  pub step_long : header_size + size (drop at xs) ≡ length now.piece
-  step_long = ap (λ (x : List ℕ). header_size + size x) now.front ∙ size_front now.piece (bytes_of now.behind) now.good
-
-  pub search_next : holds (drop at xs) q ≡ false → Search (records xs) q (at + (header_size + size (drop at xs)))
-  search_next h =
-      let miss : holds now.piece q ≡ false = sym (holds_front now.piece (bytes_of now.behind) q now.good) ∙ ap (λ (x : List ℕ). holds x q) (sym now.front) ∙ h in
-      record {
-        cursor =
-            record {
-              ahead = s.cursor.ahead ++ now.piece ∷ [];
-              behind = now.behind;
-              whole = now.whole ∙ sym (append_assoc s.cursor.ahead (now.piece ∷ []) now.behind);
-              place = (λ i. s.cursor.place i + step_long i) ∙ sym (bytes_more s.cursor.ahead now.piece);
-            };
-        none = has-next s.cursor.ahead now.piece q s.none miss;
-      }
-
-pub search_starts : (xs q : List ℕ) → Search (records xs) q 0
-search_starts xs q = record { cursor = record { ahead = []; behind = records xs; whole = refl; place = refl }; none = refl }
-
-pub search_ends : (xs q : List ℕ) (at : ℕ) → all_exact (records xs) ≡ true → Search (records xs) q at → length xs ≤ at → has (log_pairs (records xs)) q ≡ false
-search_ends xs q at good s l = ap (λ (x : List (List ℕ)). has (log_pairs x) q) (all_read xs (records xs) at s.cursor (sym (records_bytes xs)) good l) ∙ s.none
-
 pub held_of : (p q : List ℕ) → holds p q ≡ true → held p ≡ pair q (content p) ∷ []
 held_of p q h =
     let parts = and_parts (live p) (bytes_eq (key p) q) h in
     let l : live p ≡ true = parts.0 in
     simp l (ap (λ (x : List ℕ). pair x (content p) ∷ []) (same_is (key p) q parts.1))
-
-content_front : (p r : List ℕ) → exact p ≡ true → content (p ++ r) ≡ drop header_size p
-content_front p r h =
-    let l = exact_long p h in
-    let s = size_front p r h in
-    let a : 11 ≤ length p = omega arith in
-    let n : size (p ++ r) ≡ length (drop 11 p) = simp length-drop (omega arith) in
-    (λ i. take (n i) (drop-append-le 11 p r a i)) ∙ take_at (drop 11 p) r (length (drop 11 p)) refl
-
--- the record at the place of a name
-pub found : (xs q : List ℕ) (at : ℕ) → all_exact (records xs) ≡ true → PlaceOf (records xs) q at → lookup (log_pairs (records xs)) q ≡ Some (content (between at (length xs) xs))
-found xs q at good place =
-    let A : List (List ℕ) = place.ahead in
-    let B : List (List ℕ) = place.behind in
-    let p : List ℕ = place.piece in
-    let whole : records xs ≡ A ++ p ∷ B = place.whole in
-    let fit = (and_parts (exact p) (all_exact B) (exact-parts A (p ∷ B) (ap all_exact (sym whole) ∙ good)).1).0 in
-    let front : drop at xs ≡ p ++ bytes_of B =
-    (λ i. drop (place.place i) ((sym (records_bytes xs) ∙ ap bytes_of whole ∙ bytes_append A (p ∷ B)) i)) ∙ drop_at (bytes_of A) (p ++ bytes_of B) (length (bytes_of A)) refl in
-    let same : content p ≡ content (drop at xs) = ap content (sym (append-nil p)) ∙ content_front p [] fit ∙ sym (content_front p (bytes_of B) fit) ∙ ap content (sym front) in
-    ap (λ (x : List Pair). lookup x q) (ap log_pairs whole ∙ pairs_append A (p ∷ B) ∙ ap (λ (x : List Pair). log_pairs A ++ (x ++ log_pairs B)) (held_of p q place.this))
-    ∙ lookup-at (log_pairs A) (log_pairs B) q (content p) place.first
-    ∙ ap Some (same ∙ ap content (sym (take_rest xs at)))

@@ -1,3 +1,4 @@
 pub mod Chained
+pub mod Walk
 pub mod Slid
 pub mod Marks

@@ -1,14 +1,13 @@
 -- What a mark, a slide and a new record at the end leave of a log.
-use Rattle.std.proofs.Common.{◌≡◌, ℕ, zero, suc, ◌+◌, ◌-◌, ◌*◌, ◌<◌, ◌≤◌, Bool, true, false, cond, not, ◌&&◌, ◌||◌, eqb, ltb, leb, List, [], ◌∷◌, ◌++◌, length, get_or, take, set, is_some, Some, None, Option, sym, refl, ap, ◌∙◌, subst, arith, length-append, length-set}
-use native.Mathlib.Nat.{sub-zero}
+use Rattle.std.proofs.Common.{◌≡◌, ℕ, zero, suc, ◌+◌, ◌*◌, ◌<◌, ◌≤◌, Bool, true, false, cond, not, ◌&&◌, ◌||◌, eqb, ltb, leb, List, [], ◌∷◌, ◌++◌, length, get_or, take, set, is_some, Some, None, Option, sym, refl, ap, ◌∙◌, subst, arith, length-append, length-set}
 use Rattle.std.specs.Option.{option_map}
-use Rattle.std.proofs.lemmas.Bool.{true≢false, and_parts, and_from, eq-eqb, le-leb, lt-leb, or_parts, cond-true, leb-false, le-ltb, lt-ltb}
+use Rattle.std.proofs.lemmas.Bool.{true≢false, and_parts, and_from, eq-eqb, le-leb, lt-leb, or_parts, leb-false, leb-true, ltb-false, le-ltb, lt-ltb}
 use Rattle.std.proofs.lemmas.List.{append-nil, get_or-set_other, set_at, length-take-le, take_all}
 use Rattle.std.proofs.lemmas.List.Edits.{take-paste}
 use Rattle.store.specs.Pairs.{Pair, pair, has, without, once, SamePairs}
 use Rattle.store.proofs.Pairs.{by_test, same_refl, has-append, once_out, once_in, without_at, lookup-at, length_in, moved, lookup_without_same, length_without}
 use Rattle.store.specs.Says.{PutSays}
-use Rattle.area.specs.Layout.{header_size, slot_size, laid, content, holds, held, written}
+use Rattle.area.specs.Layout.{header_size, slot_size, laid, lay_number, content, holds, held, written}
 use Rattle.area.proofs.Records.{held-laid, length-laid, eight}
 use Rattle.log_store.specs.Chain.{records, bytes_of, exact, all_exact, log_pairs, marked, lives, with_room, PlaceOf}
 use Rattle.log_store.proofs.Slid.{lives_le}
@@ -75,7 +74,7 @@ pub record Ended (end : ℕ) (xs ys q : List ℕ) : Type 0 where
   pub number : length (log_pairs (records (take end ys))) + 1 ≡ length (log_pairs (records (take end xs)))
   pub had : has (log_pairs (records (take end xs))) q ≡ true
 
-pub ended : (end : ℕ) (xs q : List ℕ) (at : ℕ) → all_exact (records (take end xs)) ≡ true → once (log_pairs (records (take end xs))) ≡ true → PlaceOf (records (take end xs)) q at → Ended end xs (set xs at 0) q
+ended : (end : ℕ) (xs q : List ℕ) (at : ℕ) → all_exact (records (take end xs)) ≡ true → once (log_pairs (records (take end xs))) ≡ true → PlaceOf (records (take end xs)) q at → Ended end xs (set xs at 0) q
 ended end xs q at good u place =
     let ps : List (List ℕ) = records (take end xs) in
     let A : List (List ℕ) = place.ahead in
@@ -107,6 +106,9 @@ ended end xs q at good u place =
       had = ap (λ (x : List Pair). has x q) before ∙ ap is_some (lookup-at L R q o place.first);
     }
 
+pub ended_by : (end : ℕ) (xs ys q : List ℕ) (at : ℕ) → all_exact (records (take end xs)) ≡ true → once (log_pairs (records (take end xs))) ≡ true → PlaceOf (records (take end xs)) q at → ys ≡ set xs at 0 → Ended end xs ys q
+ended_by end xs ys q at good u place after = subst (λ (y : List ℕ). Ended end xs y q) (sym after) (ended end xs q at good u place)
+
 -- room made for n bytes
 pub record Roomy (whole n end end' : ℕ) (xs ys : List ℕ) : Type 0 where
   pub marks : records (take end' ys) ≡ with_room whole n (records (take end xs))
@@ -133,6 +135,23 @@ roomy_slid whole n end end' xs ys h good tight front =
 -- the longest record fits behind the live ones where a row is free
 pub slid_fits : (rows whole n end end' : ℕ) (xs : List ℕ) → rows * slot_size ≤ whole → all_exact (records (take end xs)) ≡ true → end' ≡ length (bytes_of (lives (records (take end xs)))) → length (log_pairs (records (take end xs))) < rows → n ≤ slot_size → end' + n ≤ whole
 slid_fits rows whole n end end' xs room good e few short = let l = lives_short (records (take end xs)) good in omega arith
+
+-- a record that was laid
+pub lay_fits : (whole at n : ℕ) → lay_number whole at n ≡ 0 → (n ≤ 1896) × (at + (11 + n) ≤ whole)
+lay_fits whole at n h =
+    by_test (ltb 1896 n)
+    (λ e. let z : ◌≡◌ {A = ℕ} 42 0 = simp e at h in absurd (omega arith))
+    (λ e.
+    let rest : cond (leb (at + (11 + n)) whole) 0 41 ≡ 0 = simp e at h in
+    by_test (leb (at + (11 + n)) whole)
+    (λ f. (ltb-false 1896 n e, leb-true (at + (11 + n)) whole f))
+    (λ f. let z : ◌≡◌ {A = ℕ} 41 0 = simp f at rest in absurd (omega arith)))
+
+pub lay_done : (whole at n : ℕ) → n ≤ 1896 → at + (11 + n) ≤ whole → lay_number whole at n ≡ 0
+lay_done whole at n h l =
+    let short : ltb 1896 n ≡ false = le-ltb 1896 n h in
+    let inside : leb (at + (11 + n)) whole ≡ true = le-leb (at + (11 + n)) whole l in
+    simp (short, inside)
 
 -- a record laid behind the last
 pub record Longer (end end' : ℕ) (xs ys q bs : List ℕ) : Type 0 where
@@ -167,14 +186,6 @@ longer end xs q bs h good e short =
       pairs = ap log_pairs read ∙ pairs_append ps (s ∷ []) ∙ ap (λ (x : List Pair). log_pairs ps ++ (x ++ [])) one;
     }
 
--- the log as the code lends it
-pub cut : (end : ℕ) (xs ds : List ℕ) → ds ≡ xs → take (end - 0) ds ≡ take end xs
-cut end xs ds e = λ i. take (sub-zero end i) (e i)
-
-pub ended_by : (end : ℕ) (xs ds ys q : List ℕ) (at : ℕ) → ds ≡ xs → all_exact (records (take end xs)) ≡ true → once (log_pairs (records (take end xs))) ≡ true → PlaceOf (records (take (end - 0) ds)) q at → ys ≡ set xs at 0 → Ended end xs ys q
-ended_by end xs ds ys q at e good u place after =
-    subst (λ (y : List ℕ). Ended end xs y q) (sym after) (ended end xs q at good u (subst (λ (x : List ℕ). PlaceOf (records x) q at) (cut end xs ds e) place))
-
 pub slid_inside : (end end' : ℕ) (xs : List ℕ) → end ≤ length xs → end' ≡ length (bytes_of (lives (records (take end xs)))) → end' ≤ end
 slid_inside end end' xs h e = let l = lives_le (records (take end xs)) in let b = bytes_long end xs h in omega arith
 
@@ -185,11 +196,9 @@ once_more L q bs u h = once_in L [] (pair q bs) (ap once (append-nil L) ∙ u) (
 pub length_more : (L : List Pair) (q bs : List ℕ) → length (L ++ pair q bs ∷ []) ≡ length L + 1
 length_more L q bs = length-append L (pair q bs ∷ [])
 
-pub longer_by : (end len : ℕ) (xs ys q bs : List ℕ) (r : Bool) → end ≤ length xs → len ≡ length xs → all_exact (records (take end xs)) ≡ true → length q ≡ 8 → length bs ≤ 1896 → end + (11 + length bs) ≤ len → r ≡ (leb (length bs) 1896 && leb (end + (11 + length bs)) len) → ys ≡ cond r (written xs end q bs) xs → Longer end (end + (11 + length bs)) xs ys q bs
-longer_by end len xs ys q bs r h long good e short room fits after =
-    let yes : r ≡ true = fits ∙ and_from (leb (length bs) 1896) (leb (end + (11 + length bs)) len) (le-leb (length bs) 1896 short) (le-leb (end + (11 + length bs)) len room) in
-    let is : ys ≡ written xs end q bs = after ∙ cond-true r (written xs end q bs) xs yes in
-    subst (λ (y : List ℕ). Longer end (end + (11 + length bs)) xs y q bs) (sym is) (longer end xs q bs h good e short)
+pub longer_by : (end len : ℕ) (xs ys q bs : List ℕ) → end ≤ length xs → all_exact (records (take end xs)) ≡ true → length q ≡ 8 → 0 ≡ lay_number len end (length bs) → ys ≡ written xs end q bs → Longer end (end + (11 + length bs)) xs ys q bs
+longer_by end len xs ys q bs h good e fits is =
+    subst (λ (y : List ℕ). Longer end (end + (11 + length bs)) xs y q bs) (sym is) (longer end xs q bs h good e (lay_fits len end (length bs) (sym fits)).0)
 
 -- a row for a name that is held, or new where a row is free
 pub row-left : (ps : List Pair) (q : List ℕ) (rows : ℕ) → once ps ≡ true → length ps ≤ rows → (leb rows (length ps) && not (has ps q)) ≡ false → (has (without q ps) q ≡ false) × (length (without q ps) < rows)
@@ -213,7 +222,7 @@ put_goes ps after q bs rows u h short e =
     let at_end : SamePairs (without q ps ++ pair q bs ∷ []) (pair q bs ∷ without q ps) = subst (λ (x : List Pair). SamePairs (without q ps ++ pair q bs ∷ []) (pair q bs ∷ x)) (append-nil (without q ps)) (moved (without q ps) [] q bs gone) in
     record { outcome = simp (small, free); pairs = subst (λ (x : List Pair). SamePairs x (pair q bs ∷ without q ps)) (sym e) at_end }
 
-pub none_by : (o : Option ℕ) (r : Bool) (g : ℕ → List ℕ) (l : Option (List ℕ)) → is_some o ≡ not r → l ≡ option_map g o → r ≡ not (is_some l)
+pub none_by : {X : Type 0} (o : Option X) (r : Bool) (g : X → List ℕ) (l : Option (List ℕ)) → is_some o ≡ not r → l ≡ option_map g o → r ≡ not (is_some l)
 none_by None true g l h e = ap (λ (x : Option (List ℕ)). not (is_some x)) (sym e)
 none_by None false g l h e = absurd (true≢false (sym h))
 none_by (Some x) true g l h e = absurd (true≢false h)

@@ -1,29 +1,14 @@
 -- Records moved to the front, one after another.
-use Rattle.std.proofs.Common.{◌≡◌, ℕ, ◌+◌, ◌-◌, ◌<◌, ◌≤◌, true, false, List, [], ◌∷◌, ◌++◌, length, get_or, take, drop, set, sym, refl, ap, ◌∙◌, append_assoc, arith, length-append, length-drop}
+use Rattle.std.proofs.Common.{◌≡◌, ℕ, ◌+◌, ◌-◌, ◌<◌, ◌≤◌, true, false, List, [], ◌∷◌, ◌++◌, length, take, drop, sym, refl, ap, ◌∙◌, append_assoc, arith, length-append, length-drop}
 use lib.Seq.{paste}
 use Rattle.std.specs.List.{between}
 use Rattle.std.proofs.lemmas.Slice.{between_is}
-use Rattle.std.proofs.lemmas.List.Edits.{paste_more, length-paste, drop-paste, take-paste}
-use Rattle.std.proofs.lemmas.List.{get_or-drop, drop-drop, take_at, append-nil, length-take-le, take-take}
+use Rattle.std.proofs.lemmas.List.Edits.{length-paste, drop-paste, take-paste}
+use Rattle.std.proofs.lemmas.List.{drop-drop, take_at, append-nil, length-take-le, take-take}
 use Rattle.store.proofs.Pairs.{by_test}
 use Rattle.area.specs.Layout.{header_size, live, size}
 use Rattle.log_store.specs.Chain.{records, bytes_of, all_exact, lives}
 use Rattle.log_store.proofs.Chained.{records_bytes, bytes_append, bytes_more, lives-append, size_front, live_front, Cursor, Here, here, all_read}
-
--- one byte more
-pub move_step : (xs ys : List ℕ) (from to k x : ℕ) → ys ≡ paste xs to (drop from xs) k → to ≤ from → from + k < length xs → x ≡ get_or ys (from + k) x → set ys (to + k) x ≡ paste xs to (drop from xs) (k + 1)
-move_step xs ys from to k x e h l r =
-    let long : k < length (drop from xs) = simp length-drop (omega arith) in
-    let same : (to + k) + (from - to) ≡ from + k = omega arith in
-    let tail : drop (to + k) ys ≡ drop (to + k) xs = ap (drop (to + k)) e ∙ drop-paste xs to (drop from xs) k (omega arith) (omega arith) in
-    let read : get_or ys (from + k) x ≡ get_or (drop from xs) k x =
-    ap (λ (n : ℕ). get_or ys n x) (sym same)
-    ∙ sym (get_or-drop (to + k) ys (from - to) x)
-    ∙ ap (λ (l : List ℕ). get_or l (from - to) x) tail
-    ∙ get_or-drop (to + k) xs (from - to) x
-    ∙ ap (λ (n : ℕ). get_or xs n x) same
-    ∙ sym (get_or-drop from xs k x) in
-    (λ i. set (e i) (to + k) ((r ∙ read) i)) ∙ paste_more xs to (drop from xs) k x (omega arith) long
 
 -- the slide as far as it has come: the live records ahead of `from` lie at the front, the bytes from `from` on are as they were
 pub record Sliding (start : List ℕ) (end : ℕ) (xs : List ℕ) (from to : ℕ) : Type 0 where

@@ -14,6 +14,11 @@ chain (suc n) (b ∷ bs) = take (header_size + size (b ∷ bs)) (b ∷ bs) ∷ c
 abbrev pub records : List ℕ → List (List ℕ)
 records bs = chain (length bs) bs
 
+-- each record with the place where it begins, the first at this one
+abbrev pub placed : ℕ → List (List ℕ) → List (ℕ × List ℕ)
+placed at [] = []
+placed at (p ∷ ps) = (at, p) ∷ placed (at + length p) ps
+
 -- the bytes of records, one behind the other
 abbrev pub bytes_of : List (List ℕ) → List ℕ
 bytes_of ps = flat_map (λ p. p) ps

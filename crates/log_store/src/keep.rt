@@ -7,8 +7,8 @@ ghost use Rattle.log_store.specs.Chain.{marked, log_put};
 ghost use Rattle.log_store.specs.Kept.{records_of, pairs_of};
 
 use crate::logs::LogStore;
-use crate::scan::fetch;
 use area::layout::{HEADER, LONGEST};
+use area::record_at::read;
 use names::{Name, Refusal};
 use store::Store;
 
@@ -19,7 +19,7 @@ impl Store for LogStore {
 
     ghost rows = { λ s. s.rows };
 
-    ghost pairs = { λ s. pairs_of s };
+    ghost pairs = { pairs_of };
 
     ghost apart = { λ s. s.apart };
 
@@ -40,8 +40,7 @@ impl Store for LogStore {
         }
         let _ = self.end_pair(name);
         self.make_room(HEADER + content.len());
-        self.append(name, content);
-        Ok(())
+        self.append(name, content)
     }
 
     fn get(&mut self, name: Name, buffer: &mut [u8]) -> Result<Option<usize>, Refusal>
@@ -50,7 +49,11 @@ impl Store for LogStore {
         ensures rows { self.new.rows ≡ self.old.rows }
         ensures lie { records_of self.new ≡ records_of self.old }
     {
-        fetch(&self.area[0..self.end], name, buffer)
+        let Some((_, record)) = self.find(name) else {
+            return Ok(None);
+        };
+        let n = read(record, buffer)?;
+        Ok(Some(n))
     }
 
     fn drop(&mut self, name: Name) -> bool

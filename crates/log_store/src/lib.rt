@@ -5,8 +5,10 @@
 pub mod keep;
 pub mod logs;
 pub mod opening;
+pub mod records;
 pub mod scan;
 pub mod slide;
 pub mod steps;
 
 pub use logs::LogStore;
+pub use records::Records;

@@ -1,23 +1,23 @@
 // The three steps of a put: the old record marked dead, room made, the new record appended.
-ghost use Rattle.std.specs.Prelude.{◌≡◌, ℕ, ◌+◌, ◌<◌, ◌≤◌, true, false, not, ◌&&◌, List, [], ◌∷◌, ◌++◌, length, vec_len, nat_le};
+ghost use Rattle.std.specs.Prelude.{◌≡◌, ℕ, ◌+◌, ◌<◌, ◌≤◌, true, false, not, ◌&&◌, List, [], ◌∷◌, ◌++◌, length, if◌then◌else◌, vec_len, nat_eq, nat_le};
+ghost use Rattle.names.specs.Refusals.{answer};
 ghost use Rattle.store.specs.Pairs.{pair, has, without};
-ghost use Rattle.area.specs.Layout.{header_size, slot_size, longest, laid};
+ghost use Rattle.area.specs.Layout.{slot_size, laid, lay_number};
 ghost use Rattle.log_store.specs.Chain.{marked, with_room};
 ghost use Rattle.log_store.specs.Kept.{records_of, pairs_of};
 
 use crate::logs::LogStore;
-use crate::scan::find;
 use crate::slide::slide;
 use area::layout::HEADER;
 use area::record_at::{bury, write};
-use names::Name;
+use names::{Name, Refusal};
 
 impl LogStore {
     // Whether the name is new and every row has its pair.
     pub(crate) fn is_full_for(&self, name: Name) -> bool
         ensures { result ≡ (nat_le self.now.rows (length (pairs_of self.now)) && not (has (pairs_of self.now) name.bytes)) }
     {
-        self.count >= self.rows && find(&self.area[0..self.end], name).is_none()
+        self.count >= self.rows && self.find(name).is_none()
     }
 
     // Marks the live record of the name dead; says whether there was one.
@@ -28,14 +28,12 @@ impl LogStore {
         ensures rows { self.new.rows ≡ self.old.rows }
         ensures len { vec_len self.new.area ≡ vec_len self.old.area }
     {
-        match find(&self.area[0..self.end], name) {
-            Some(at) => {
-                bury(&mut self.area, at);
-                self.count -= 1;
-                true
-            }
-            None => false,
-        }
+        let Some((at, _)) = self.find(name) else {
+            return false;
+        };
+        bury(&mut self.area, at);
+        self.count -= 1;
+        true
     }
 
     // Slides the live records to the front where n bytes more do not fit behind the last record.
@@ -51,19 +49,19 @@ impl LogStore {
         }
     }
 
-    // Lays a record of a new name behind the last.
-    pub(crate) fn append(&mut self, name: Name, content: &[u8])
-        requires room { self.old.end + (header_size + length content.now) ≤ vec_len self.old.area }
-        requires short { length content.now ≤ longest }
+    // Lays a record of a new name behind the last; refused, and nothing done, where the record is too long (42) or does not fit there (41).
+    pub(crate) fn append(&mut self, name: Name, content: &[u8]) -> Result<(), Refusal>
         requires fresh { has (pairs_of self.old) name.bytes ≡ false }
         requires row { length (pairs_of self.old) < self.old.rows }
-        ensures marks { records_of self.new ≡ records_of self.old ++ laid name.bytes content.now ∷ [] }
-        ensures pairs { pairs_of self.new ≡ pairs_of self.old ++ pair name.bytes content.now ∷ [] }
+        ensures outcome { answer result ≡ lay_number (vec_len self.old.area) self.old.end (length content.now) }
+        ensures marks { records_of self.new ≡ (if nat_eq (answer result) 0 then records_of self.old ++ laid name.bytes content.now ∷ [] else records_of self.old) }
+        ensures pairs { pairs_of self.new ≡ (if nat_eq (answer result) 0 then pairs_of self.old ++ pair name.bytes content.now ∷ [] else pairs_of self.old) }
         ensures rows { self.new.rows ≡ self.old.rows }
         ensures len { vec_len self.new.area ≡ vec_len self.old.area }
     {
-        let _ = write(&mut self.area, self.end, name, content);
+        write(&mut self.area, self.end, name, content)?;
         self.end += HEADER + content.len();
         self.count += 1;
+        Ok(())
     }
 }

@@ -4,15 +4,15 @@ ghost use Rattle.codec.specs.Format.{left, read_as};
 ghost use Rattle.mnemonics.specs.Code.{instruction};
 
 use crate::instruction::Instruction;
-use codec::{Input, Malformed};
+use codec::{Field, Input, Malformed};
 
 // The instruction that stands first in what is left.
 pub fn next(input: &mut Input<'_>) -> Result<Instruction, Malformed>
     ensures { read_as result (left input.new) ≡ instruction (left input.old) }
 {
-    match input.byte()? {
+    match u8::read(input)? {
         0x01 => {
-            let value = input.value()?;
+            let value = i32::read(input)?;
             Ok(Instruction::Push(value))
         }
         0x02 => Ok(Instruction::Argument),
@@ -23,7 +23,7 @@ pub fn next(input: &mut Input<'_>) -> Result<Instruction, Malformed>
         0x14 => Ok(Instruction::Less),
         0x15 => Ok(Instruction::Equal),
         0x30 => {
-            let number = input.byte()?;
+            let number = u8::read(input)?;
             Ok(Instruction::Call(number))
         }
         0x3F => Ok(Instruction::Return),

@@ -70,9 +70,5 @@ pub told_more : (limit rows : ℕ) (past cs : List Call) (c : Call) → told_all
 told_more limit rows past [] c = refl
 told_more limit rows past (d ∷ cs) c = told_more limit rows (told limit rows past d) cs c
 
--- no calls, no pairs
-pub none_stand : (ps : List Pair) → ps ≡ [] → Stands [] ps
-none_stand ps e = record { records = λ q. ap (λ x. lookup x q) e; number = ap length e }
-
 pub told_step : (limit rows : ℕ) (past cs : List Call) (i : ℕ) (c : Call) → i < length cs → c ≡ get_or cs i c → told_all limit rows past (take (i + 1) cs) ≡ told limit rows (told_all limit rows past (take i cs)) c
 told_step limit rows past cs i c h e = ap (told_all limit rows past) (take_more cs i c h) ∙ told_more limit rows past (take i cs) (get_or cs i c) ∙ ap (told limit rows (told_all limit rows past (take i cs))) (sym e)

@@ -80,9 +80,6 @@ without_at (p ∷ L) R k b h =
 pub length_in : (L R : List Pair) (p : Pair) → length (L ++ p ∷ R) ≡ suc (length (L ++ R))
 length_in L R p = simp length-append (omega arith)
 
-pub same_pairs_refl : (xs : List Pair) → SamePairs xs xs
-same_pairs_refl xs = record { records = λ q. refl; number = refl }
-
 pub same_pairs_is : (xs ys : List Pair) → xs ≡ ys → SamePairs xs ys
 same_pairs_is xs ys e = record { records = λ q. ap (λ x. lookup x q) e; number = ap length e }
 

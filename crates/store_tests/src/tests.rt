@@ -1,7 +1,6 @@
 ghost use Rattle.std.specs.Prelude.{IsTrue, OnOk};
 
-use area::layout::{HEADER, LENGTH_AT, NAME_AT};
-use area::record_at::{is_live, length_of};
+use area::record_at::{is_live, name_of};
 use cache::Cache;
 use log_store::LogStore;
 use names::Name;
@@ -30,13 +29,8 @@ fn number(line: &[u8], place: usize) -> Result<usize, Fail> {
     let Some(word) = words::word(line, place) else {
         return Err(Fail::new("a number is missing"));
     };
-    match std::str::from_utf8(word) {
-        Ok(text) => match text.parse::<usize>() {
-            Ok(n) => Ok(n),
-            Err(_) => Err(Fail::new("no number")),
-        },
-        Err(_) => Err(Fail::new("no text")),
-    }
+    let text = std::str::from_utf8(word).map_err(|_| Fail::new("no text"))?;
+    text.parse::<usize>().map_err(|_| Fail::new("no number"))
 }
 
 // The call of a line: put NAME LENGTH BYTE, get NAME ROOM or drop NAME.
@@ -47,28 +41,23 @@ fn call(rt: &HostRuntime, line: &[u8]) -> Result<Call, Fail> {
     let Ok(name) = Name::from_text(name) else {
         return Err(Fail::new("no name"));
     };
-    if word[..] == b"put"[..] {
-        let byte = (number(line, 3)? & 255) as u8;
-        let bytes = vec![in rt.alloc(); byte; number(line, 2)?]?;
-        return Ok(Call::Put { name, bytes });
+    match word {
+        b"put" => {
+            let byte = u8::try_from(number(line, 3)?).map_err(|_| Fail::new("no byte"))?;
+            let bytes = vec![in rt.alloc(); byte; number(line, 2)?]?;
+            Ok(Call::Put { name, bytes })
+        }
+        b"get" => Ok(Call::Get { name }),
+        _ => Ok(Call::Drop { name }),
     }
-    if word[..] == b"get"[..] {
-        return Ok(Call::Get { name });
-    }
-    Ok(Call::Drop { name })
 }
 
 // Whether the buffer holds n equal bytes and behind them what was in it.
 fn filled(buffer: &[u8], n: usize) -> bool {
-    for (i, byte) in buffer.iter().enumerate() {
-        if i >= n && *byte != 238 {
-            return false;
-        }
-        if i > 0 && i < n && *byte != buffer[0] {
-            return false;
-        }
-    }
-    true
+    let Some((record, behind)) = buffer.split_at_checked(n) else {
+        return false;
+    };
+    record.iter().all(|byte| Some(byte) == record.first()) && behind.iter().all(|byte| *byte == 238)
 }
 
 // The answers to the calls of a script: ok, no, the refusal's number, or a record's length and byte.
@@ -83,10 +72,13 @@ fn answers<S: Store>(rt: &HostRuntime, store: &mut S, script: &str) -> Result<St
         };
         let mut buffer = vec![in rt.alloc(); 238u8; room]?;
         match store::act(store, &call, buffer.as_mut_slice()) {
-            Answer::Done => write!(text, "ok ")?,
-            Answer::Nothing => write!(text, "no ")?,
-            Answer::Refused(n) => write!(text, "{n} ")?,
-            Answer::Found(n) => {
+            Ok(Answer::Done) => write!(text, "ok ")?,
+            Ok(Answer::Nothing) => write!(text, "no ")?,
+            Err(refusal) => {
+                let n = refusal.number();
+                write!(text, "{n} ")?;
+            }
+            Ok(Answer::Found(n)) => {
                 check(filled(buffer.as_slice(), n), "the buffer")?;
                 let byte = buffer.first().copied().unwrap_or(0);
                 write!(text, "{n}:{byte} ")?;
@@ -118,33 +110,14 @@ fn lies(rt: &HostRuntime, length: usize, script: &str, expected: &str) -> Result
     let mut log = LogStore::open(vec![in rt.alloc(); 1u8; length]?);
     let _ = answers(rt, &mut log, script)?;
     let mut text = String::new(rt.alloc());
-    let end = log.end();
-    let area = log.area();
-    check(end <= area.len(), "the end")?;
-    let mut rest = &area[0..end];
-    let mut at = 0usize;
-    for _ in 0..end {
-        if rest.len() < HEADER {
-            break;
-        }
-        let mark = if is_live(rest) { "" } else { "!" };
-        let name = name_of(rest)?;
+    for (at, record) in log.records() {
+        let mark = if is_live(record) { "" } else { "!" };
+        let Some(name) = name_of(record) else {
+            return Err(Fail::new("no name"));
+        };
         write!(text, "{at}{mark}{name} ")?;
-        let size = HEADER.saturating_add(length_of(rest)).min(rest.len());
-        at = at.saturating_add(size);
-        rest = &rest[size..];
     }
     check_text(text.as_str(), expected, "where the records lie")
-}
-
-fn name_of(piece: &[u8]) -> Result<Name, Fail> {
-    check(piece.len() >= HEADER, "the header")?;
-    let mut bytes = [0u8; 8];
-    bytes.copy_from_slice(&piece[NAME_AT..LENGTH_AT]);
-    match Name::from_padded(bytes) {
-        Ok(name) => Ok(name),
-        Err(_) => Err(Fail::new("no name")),
-    }
 }
 
 #[test]

@@ -18,5 +18,5 @@ pub returns-in-Some : goal.returns-in-Some
 returns-in-Some c =
     ap (λ (x : List Copied). map copy_of x) c.remove-content.ensures.items ∙ kept_removed (vec_items c.args.self.now.latest) c.in-Some.i c.args.name.bytes c.in-Some.ensures
 
-pub returns-in-None : goal.returns-in-None
-returns-in-None c = sym (without_none c.args.name.bytes (kept c.args.self.now) c.in-None.ensures)
+pub returns-in_default : goal.returns-in_default
+returns-in_default c = sym (without_none c.args.name.bytes (kept c.args.self.now) c.in_default.ensures)

@@ -1,6 +1,6 @@
-use Rattle.std.proofs.Common.{◌≡◌, ◌<◌, ◌≤◌, ◌∷◌, map, length, take, ap, ◌∙◌, subst, arith}
+use Rattle.std.proofs.Common.{◌≤◌, ◌∷◌, map, length, take, ap, ◌∙◌, subst, arith}
 use Rattle.std.proofs.lemmas.List.{take_all}
-use Rattle.bounded.specs.Held.{held, used}
+use Rattle.bounded.specs.Held.{held}
 use Rattle.codec.specs.Format.{each, pair}
 use Rattle.image.specs.Dealt.{lists, flat, deal}
 use Rattle.image.proofs.Dealing.{deal-list}

@@ -1,4 +1,4 @@
-use Rattle.std.proofs.Common.{◌≡◌, ◌+◌, ◌≤◌, map, length, take, ap, ◌∙◌, arith, rules}
+use Rattle.std.proofs.Common.{◌+◌, map, length, take, ap, ◌∙◌, arith}
 use Rattle.std.proofs.lemmas.List.{take_all}
 use Rattle.bounded.specs.Held.{held}
 use Rattle.bounded.proofs.Few.{held_few}

@@ -3,7 +3,7 @@ use Rattle.names.specs.declared.name.Name.{Name}
 use Rattle.codec.specs.Format.{left, name}
 use Rattle.codec.proofs.Named.{name_of_yes}
 use Rattle.codec.proofs.Laws.{some_first, some_rest}
-use Rattle.codec.proofs.input.Input.name.Goals as goal
+use Rattle.codec.proofs.elements.NameField.read.Goals as goal
 
 -- what stands in the first eight bytes
 named : (t : Bool) (bs cs ds : List ℕ) (n : Name) → ◌≡◌ {A = Option (List ℕ × List ℕ)} (Some (cs, ds)) (cond t (Some (take 8 bs, drop 8 bs)) None) → n.bytes ≡ cs → ◌≡◌ {A = Option (Name × List ℕ)} (Some (n, ds)) (name.get bs)
@@ -13,4 +13,4 @@ named false bs cs ds n e f = cc
 
 pub returns : goal.returns
 returns c =
-    named (nat_le 8 (length (left c.args.self.now))) (left c.args.self.now) c.in_ok-bytes.field-0 (left c.bytes.new.self) c.in_ok-name.name c.in_ok-bytes.ensures c.in_ok-name.ensures
+    named (nat_le 8 (length (left c.args.input.now))) (left c.args.input.now) c.in_ok-bytes.field-0 (left c.bytes.new.self) c.in_ok-name.name c.in_ok-bytes.ensures c.in_ok-name.ensures
