@@ -1,17 +1,18 @@
 -- A build on its way through the units in link order.
 use Rattle.std.specs.Prelude.{ℕ, List, ◌++◌, map, Ok, Err, Result}
 use Rattle.names.specs.declared.name.Name.{Name}
+use Rattle.names.specs.Refusals.{number}
 use Rattle.ledger.specs.Fresh.{Made}
 use Rattle.ledger.specs.Shelf.{Ended, accepted, faulty, unstored, Built}
-use Rattle.building.specs.declared.course.Halt.{Halt}
+use Rattle.building.specs.declared.workshop.Halt.{Halt}
 use Rattle.building.specs.declared.mark.Mark.{Mark}
-use Rattle.building.specs.declared.unit.Stop.{Stop}
-use Rattle.building.specs.declared.unit.Stop.TheVariants.{Faulty, Unstored}
+use Rattle.building.specs.declared.stop.Stop.{Stop}
+use Rattle.building.specs.declared.stop.Stop.TheVariants.{Faulty, Unstored}
 use Rattle.building.specs.Step.{mark_number}
 
 abbrev pub stopped_at : Name → Stop → Ended
 stopped_at n (Faulty f) = faulty n f
-stopped_at n (Unstored k) = unstored n k
+stopped_at n (Unstored e) = unstored n (number e)
 
 -- how a build ended
 abbrev pub ended_of : {T : Type 0} → Result T Halt → Ended

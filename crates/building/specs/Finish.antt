@@ -1,9 +1,10 @@
 -- What the table of products holds.
-use Rattle.std.specs.Prelude.{◌≡◌, ℕ, ◌≤◌, Bool, true, false, cond, ◌&&◌, List, map, take, Some, None, vec_items, Option, ◌==◌}
+use Rattle.std.specs.Prelude.{◌≡◌, ℕ, Bool, cond, ◌&&◌, List, map, ◌==◌}
 use Rattle.std.specs.Str.{bytes_eq}
 use Rattle.product.specs.declared.row.Row.{Row}
 use Rattle.product.specs.Parts.{parts}
-use Rattle.artifact.specs.Art.{Art, read}
+use Rattle.bounded.specs.Held.{used}
+use Rattle.artifact.specs.Art.{Art}
 use Rattle.ledger.specs.Shelf.{all_same}
 use Rattle.ledger.specs.Stored.{View, stored}
 use Rattle.ledger.specs.Fresh.{Made}
@@ -16,22 +17,7 @@ finished f = record { unit = f.name; parts = parts f.product }
 
 -- the units built so far
 abbrev pub done_list : Done → List Made
-done_list d = take d.count (map finished (vec_items d.rows))
-
--- what a look-up found
-abbrev pub found : Bool → Art → Option Art
-found true a = Some a
-found false a = None
-
--- the artifact that the first so many bytes of a buffer are
-abbrev pub in_buffer : Option ℕ → List ℕ → Option Art
-in_buffer None bs = None
-in_buffer (Some n) bs = read (take n bs)
-
--- a length within the buffer
-abbrev pub InRoom : Option ℕ → Type 0
-InRoom None = Unit {0}
-InRoom (Some n) = n ≤ 1896
+done_list d = map finished (used d.units)
 
 -- the same source, and interfaces that are the same place by place
 abbrev pub same_art : (List Row → List Row → Bool) → Art → Art → Bool

@@ -1,12 +1,13 @@
 -- What becomes of one unit.
-use Rattle.std.specs.Prelude.{◌≡◌, ℕ, ◌<◌, Bool, cond, List, ◌∷◌, Some, None, Ok, Err, Option, Result}
+use Rattle.std.specs.Prelude.{◌≡◌, ℕ, Bool, cond, List, ◌∷◌, Some, None, Ok, Err, Option, Result}
 use Rattle.product.specs.declared.row.Row.{Row}
 use Rattle.product.specs.Parts.{Parts, Outcome, made, faulted}
 use Rattle.artifact.specs.Art.{Art}
 use Rattle.ledger.specs.Stored.{View, stored}
-use Rattle.building.specs.declared.unit.Stop.{Stop}
-use Rattle.building.specs.declared.unit.Stop.TheVariants.{Faulty, Unstored}
+use Rattle.building.specs.declared.stop.Stop.{Stop}
+use Rattle.building.specs.declared.stop.Stop.TheVariants.{Faulty, Unstored}
 use Rattle.names.specs.declared.name.Name.{Name}
+use Rattle.names.specs.Refusals.{number}
 use Rattle.project.specs.Members.{Member}
 use Rattle.ledger.specs.Meaning.{Meaning}
 use Rattle.ledger.specs.Fresh.{Made, interfaces}
@@ -31,7 +32,7 @@ mark_of (Err e) = 2
 abbrev pub onward : {S : Type 0} → Name → Result Mark Stop → List Made → S → Built S → Built S
 onward n (Ok k) ds s rest = marked (mark_number k) rest
 onward n (Err (Faulty f)) ds s rest = stopped (faulty n f) ds s
-onward n (Err (Unstored k)) ds s rest = stopped (unstored n k) ds s
+onward n (Err (Unstored e)) ds s rest = stopped (unstored n (number e)) ds s
 
 -- the artifact kept, where it is current to what the unit would be stored as
 abbrev pub current_to : (List Row → List Row → Bool) → Art → Option Art → Option Art
@@ -42,13 +43,13 @@ current_to same fresh (Some a) = cond (same_art same a fresh) (Some a) None
 abbrev pub with_product : Art → Parts → Art
 with_product a p = record { source = a.source; imports = a.imports; product = p }
 
--- translated and put; or the fault that the function gives; or the number that the store refuses the artifact with
+-- translated and put; or the fault that the function gives; or the refusal of the store
 abbrev pub MadeSays : (List ℕ → List (List Row) → Outcome) → ℕ → ℕ → List ℕ → Art → Art → View → View → Result (Unit {0}) Stop → Type 0
 MadeSays means limit rows q before after v w (Ok u) =
     (p : Parts) × (means before.source before.imports ≡ made p) × (after ≡ with_product before p) × ((stored limit rows).room v q (with_product before p) ≡ 0) × (w ≡ (stored limit rows).kept v q (with_product before p))
 MadeSays means limit rows q before after v w (Err (Faulty f)) = (means before.source before.imports ≡ faulted f) × (w ≡ v)
-MadeSays means limit rows q before after v w (Err (Unstored n)) =
-    (p : Parts) × (means before.source before.imports ≡ made p) × ((stored limit rows).room v q (with_product before p) ≡ n) × (0 < n) × (w ≡ v)
+MadeSays means limit rows q before after v w (Err (Unstored e)) =
+    (p : Parts) × (means before.source before.imports ≡ made p) × ((stored limit rows).room v q (with_product before p) ≡ number e) × (w ≡ v)
 
 -- a build of the unit and of any others behind it comes to this, and goes on from what is then done and stored
 abbrev pub UnitBuilt : Meaning → Shelf View → Member → List Made → List Made → View → View → Result Mark Stop → Type 0

@@ -1,5 +1,5 @@
 // The units of a project in link order, one after the other.
-ghost use Rattle.std.specs.Prelude.{◌≡◌, ℕ, ◌+◌, ◌<◌, ◌≤◌, List, [], ◌∷◌, length};
+ghost use Rattle.std.specs.Prelude.{◌≡◌, ℕ, ◌+◌, ◌<◌, ◌≤◌, List, [], ◌∷◌, length, IfOk};
 ghost use Rattle.bounded.specs.Held.{held};
 ghost use Rattle.project.specs.Members.{members};
 ghost use Rattle.ledger.specs.Meaning.{meaning};
@@ -12,75 +12,90 @@ ghost use Rattle.building.specs.Course.{ended_of, numbers, ahead, gone};
 use crate::desk::Desk;
 use crate::mark::Mark;
 use crate::table::Done;
-use crate::unit;
-use crate::unit::Stop;
+use crate::workshop::{Halt, Workshop};
 use bounded::Bounded;
-use names::Name;
 use project::Project;
+use std::alloc::{AllocError, Global};
 use store::Store;
 use translator::Translator;
 
-// Where a build ended, and why.
-#[derive(Clone, Copy)]
-pub struct Halt {
-    pub unit: Name,
-    pub stop: Stop,
-}
+impl Workshop {
+    // Memory for the builds of a project.
+    pub fn open(heap: Global) -> Result<Workshop, AllocError>
+        ensures done { IfOk result (λ w. done_list w.done ≡ []) }
+        ensures marks { IfOk result (λ w. held w.marks ≡ []) }
+    {
+        let desk = Desk::open(heap)?;
+        let done = Done::open(heap)?;
+        let marks = Bounded::open(heap)?;
+        Ok(Workshop { desk, done, marks })
+    }
 
-// The unit at a place of the project, if there is one.
-fn build_at<T: Translator, S: Store>(
-    translator: &mut T,
-    store: &mut S,
-    project: &Project,
-    place: usize,
-    desk: &mut Desk,
-    done: &mut Done,
-    marks: &mut Bounded<Mark, 24>,
-) -> Result<(), Halt>
-    requires { length (held marks.old) < 24 }
-    ensures goes { length (done_list done.old) < 24 → (more : List ℕ) → ahead (numbers (held marks.old)) (build_units (meaning T.Translator.means T.Translator.same) (stored S.Store.LIMIT (S.Store.rows store.old)) (in_order (members project.now) (place ∷ more)) (done_list done.old) (view (S.Store.pairs store.old))) ≡ gone result (numbers (held marks.new)) (done_list done.new) (view (S.Store.pairs store.new)) (build_units (meaning T.Translator.means T.Translator.same) (stored S.Store.LIMIT (S.Store.rows store.old)) (in_order (members project.now) more) (done_list done.new) (view (S.Store.pairs store.new))) }
-    ensures grows { length (done_list done.new) ≤ length (done_list done.old) + 1 }
-    ensures marks { length (held marks.new) ≤ length (held marks.old) + 1 }
-    ensures rows { S.Store.rows store.new ≡ S.Store.rows store.old }
-    ensures counts { (a : ℕ) → T.Translator.asked translator.old ≡ raised a (translations (numbers (held marks.old))) → T.Translator.asked translator.new ≡ raised a (translations (numbers (held marks.new))) }
-{
-    let Some(unit) = project.unit(place) else {
-        return Ok(());
-    };
-    match unit::build_unit(translator, store, unit, desk, done) {
-        Ok(mark) => {
-            let _ = marks.push(mark);
-            Ok(())
-        }
-        Err(stop) => {
-            let _ = marks.push(Mark::Failed);
-            Err(Halt {
-                unit: unit.name(),
-                stop,
-            })
+    // The units that have their product since the last build began.
+    pub fn done(&self) -> &Done
+        ensures { done_list result.now ≡ done_list self.now.done }
+    {
+        &self.done
+    }
+
+    // What became of each unit that the last build came to.
+    pub fn marks(&self) -> &[Mark]
+        ensures { result.now ≡ held self.now.marks }
+    {
+        self.marks.as_slice()
+    }
+
+    // The unit at a place of the project, if there is one.
+    fn build_at<T: Translator, S: Store>(
+        &mut self,
+        translator: &mut T,
+        store: &mut S,
+        project: &Project,
+        place: usize,
+    ) -> Result<(), Halt>
+        requires { length (held self.old.marks) < 24 }
+        ensures goes { length (done_list self.old.done) < 24 → (more : List ℕ) → ahead (numbers (held self.old.marks)) (build_units (meaning T.Translator.means T.Translator.same) (stored S.Store.LIMIT (S.Store.rows store.old)) (in_order (members project.now) (place ∷ more)) (done_list self.old.done) (view (S.Store.pairs store.old))) ≡ gone result (numbers (held self.new.marks)) (done_list self.new.done) (view (S.Store.pairs store.new)) (build_units (meaning T.Translator.means T.Translator.same) (stored S.Store.LIMIT (S.Store.rows store.old)) (in_order (members project.now) more) (done_list self.new.done) (view (S.Store.pairs store.new))) }
+        ensures grows { length (done_list self.new.done) ≤ length (done_list self.old.done) + 1 }
+        ensures marks { length (held self.new.marks) ≤ length (held self.old.marks) + 1 }
+        ensures rows { S.Store.rows store.new ≡ S.Store.rows store.old }
+        ensures counts { (a : ℕ) → T.Translator.asked translator.old ≡ raised a (translations (numbers (held self.old.marks))) → T.Translator.asked translator.new ≡ raised a (translations (numbers (held self.new.marks))) }
+    {
+        let Some(unit) = project.unit(place) else {
+            return Ok(());
+        };
+        match self.build_unit(translator, store, unit) {
+            Ok(mark) => {
+                let _ = self.marks.push(mark);
+                Ok(())
+            }
+            Err(stop) => {
+                let _ = self.marks.push(Mark::Failed);
+                Err(Halt {
+                    unit: unit.name(),
+                    stop,
+                })
+            }
         }
     }
-}
 
-// All units at these places, in order, until one fails.
-pub(crate) fn build_all<T: Translator, S: Store>(
-    translator: &mut T,
-    store: &mut S,
-    project: &Project,
-    places: &[usize],
-    desk: &mut Desk,
-    done: &mut Done,
-    marks: &mut Bounded<Mark, 24>,
-) -> Result<(), Halt>
-    requires { length places.now ≤ 24 }
-    ensures built { build_units (meaning T.Translator.means T.Translator.same) (stored S.Store.LIMIT (S.Store.rows store.old)) (in_order (members project.now) places.now) [] (view (S.Store.pairs store.old)) ≡ record { ended = ended_of result; marks = numbers (held marks.new); done = done_list done.new; state = view (S.Store.pairs store.new) } }
-    ensures rows { S.Store.rows store.new ≡ S.Store.rows store.old }
-    ensures counts { T.Translator.asked translator.new ≡ raised (T.Translator.asked translator.old) (translations (numbers (held marks.new))) }
-{
-    done.clear();
-    marks.clear();
-    for place in places {
-        build_at(translator, store, project, *place, desk, done, marks)?;
+    // Builds all units at these places, in order, until one fails.
+    pub fn build<T: Translator, S: Store>(
+        &mut self,
+        translator: &mut T,
+        store: &mut S,
+        project: &Project,
+        places: &[usize],
+    ) -> Result<(), Halt>
+        requires { length places.now ≤ 24 }
+        ensures built { build_units (meaning T.Translator.means T.Translator.same) (stored S.Store.LIMIT (S.Store.rows store.old)) (in_order (members project.now) places.now) [] (view (S.Store.pairs store.old)) ≡ record { ended = ended_of result; marks = numbers (held self.new.marks); done = done_list self.new.done; state = view (S.Store.pairs store.new) } }
+        ensures rows { S.Store.rows store.new ≡ S.Store.rows store.old }
+        ensures counts { T.Translator.asked translator.new ≡ raised (T.Translator.asked translator.old) (translations (numbers (held self.new.marks))) }
+    {
+        self.done.clear();
+        self.marks.clear();
+        for place in places {
+            self.build_at(translator, store, project, *place)?;
+        }
+        Ok(())
     }
-    Ok(())
 }

@@ -5,40 +5,53 @@ ghost use Rattle.translator.specs.Owed.{shown};
 ghost use Rattle.artifact.specs.Art.{art};
 ghost use Rattle.ledger.specs.Stored.{view};
 ghost use Rattle.building.specs.Finish.{PutArt};
+ghost use Rattle.building.specs.Step.{MadeSays};
 
-use artifact::Artifact;
-use bounded::Bounded;
+use crate::desk::Desk;
+use crate::stop::Stop;
 use names::{Fault, Name, Refusal};
-use product::Product;
+use std::mem;
 use store::Store;
 use translator::Translator;
 
-// Gives the artifact the product of its source and interfaces, or answers the fault.
-pub fn translate<T: Translator>(
-    translator: &mut T,
-    fresh: &mut Artifact,
-    scratch: &mut Product,
-) -> Result<(), Fault>
-    ensures means { shown result (art fresh.new).product ≡ T.Translator.means (art fresh.old).source (art fresh.old).imports }
-    ensures source { (art fresh.new).source ≡ (art fresh.old).source }
-    ensures imports { (art fresh.new).imports ≡ (art fresh.old).imports }
-    ensures counts { T.Translator.asked translator.new ≡ (T.Translator.asked translator.old + 1) % 2 ^ 64 }
-{
-    let result = translator.translate(fresh.source.as_slice(), fresh.imports(), scratch);
-    std::mem::swap(&mut fresh.product, scratch);
-    result
-}
+impl Desk {
+    // Gives the unit the product of its source and interfaces, or answers the fault.
+    pub fn translate<T: Translator>(&mut self, translator: &mut T) -> Result<(), Fault>
+        ensures means { shown result (art self.new.fresh).product ≡ T.Translator.means (art self.old.fresh).source (art self.old.fresh).imports }
+        ensures source { (art self.new.fresh).source ≡ (art self.old.fresh).source }
+        ensures imports { (art self.new.fresh).imports ≡ (art self.old.fresh).imports }
+        ensures counts { T.Translator.asked translator.new ≡ (T.Translator.asked translator.old + 1) % 2 ^ 64 }
+    {
+        let fresh = &mut self.fresh;
+        let scratch = &mut self.scratch;
+        let result = translator.translate(fresh.source.as_slice(), fresh.imports(), scratch);
+        mem::swap(&mut fresh.product, scratch);
+        result
+    }
 
-// Puts the artifact under a name.
-pub fn keep<S: Store>(
-    store: &mut S,
-    name: Name,
-    fresh: &Artifact,
-    record: &mut Bounded<u8, 1896>,
-) -> Result<(), Refusal>
-    ensures says { PutArt S.Store.LIMIT (S.Store.rows store.old) (view (S.Store.pairs store.old)) (view (S.Store.pairs store.new)) name.bytes (art fresh.now) (answer result) }
-    ensures rows { S.Store.rows store.new ≡ S.Store.rows store.old }
-{
-    fresh.write(record);
-    store.put(name, record.as_slice())
+    // Puts the unit's artifact under a name.
+    pub fn keep<S: Store>(&mut self, store: &mut S, name: Name) -> Result<(), Refusal>
+        ensures says { PutArt S.Store.LIMIT (S.Store.rows store.old) (view (S.Store.pairs store.old)) (view (S.Store.pairs store.new)) name.bytes (art self.old.fresh) (answer result) }
+        ensures fresh { art self.new.fresh ≡ art self.old.fresh }
+        ensures rows { S.Store.rows store.new ≡ S.Store.rows store.old }
+    {
+        self.fresh.write(&mut self.record);
+        store.put(name, self.record.as_slice())
+    }
+
+    // Translates the unit and puts its artifact.
+    pub(crate) fn make<T: Translator, S: Store>(
+        &mut self,
+        translator: &mut T,
+        store: &mut S,
+        name: Name,
+    ) -> Result<(), Stop>
+        ensures says { MadeSays T.Translator.means S.Store.LIMIT (S.Store.rows store.old) name.bytes (art self.old.fresh) (art self.new.fresh) (view (S.Store.pairs store.old)) (view (S.Store.pairs store.new)) result }
+        ensures rows { S.Store.rows store.new ≡ S.Store.rows store.old }
+        ensures counts { T.Translator.asked translator.new ≡ (T.Translator.asked translator.old + 1) % 2 ^ 64 }
+    {
+        self.translate(translator)?;
+        self.keep(store, name)?;
+        Ok(())
+    }
 }

@@ -2,16 +2,16 @@
 ghost use Rattle.std.specs.Prelude.{◌≡◌};
 ghost use Rattle.building.specs.Step.{mark_number};
 
-#[derive(Clone, Copy)]
+#[derive(Clone, Copy, Debug, PartialEq, Eq)]
 pub enum Mark {
     // its artifact was current
-    Kept,
+    Kept = 0,
     // translated, and its artifact stored
-    Translated,
+    Translated = 1,
     // translated, and the build ended there
-    Failed,
+    Failed = 2,
     // the build did not come to it, or there is no such unit
-    NotReached,
+    NotReached = 3,
 }
 
 impl Mark {
@@ -19,11 +19,6 @@ impl Mark {
     pub fn number(&self) -> u8
         ensures { result ≡ mark_number self.now }
     {
-        match self {
-            Mark::Kept => 0,
-            Mark::Translated => 1,
-            Mark::Failed => 2,
-            Mark::NotReached => 3,
-        }
+        *self as u8
     }
 }

@@ -1,6 +1,7 @@
-ghost use Rattle.std.specs.Prelude.{◌≡◌, ◌≤◌, length, vec_len};
+ghost use Rattle.std.specs.Prelude.{◌≡◌, length};
 ghost use Rattle.product.specs.Parts.{rows as rows_of};
 
+use bounded::Pool;
 use names::Name;
 use product::{Interface, Product};
 
@@ -11,13 +12,11 @@ pub struct Finished {
     pub product: Product,
 }
 
-// The units built so far, in link order: the first `count` rows. Beside them an interface with no row.
+// The units built so far, in link order. Beside them one to fill, and an interface with no row.
 #[derive(Drop)]
 pub struct Done {
-    pub(crate) rows: Vec<Finished>,
-    pub(crate) count: usize,
+    pub(crate) units: Pool<Finished, 24>,
+    pub(crate) next: Finished,
     pub(crate) none: Interface,
-    ghost full: { vec_len rows ≡ 24 },
-    ghost few: { count ≤ 24 },
     ghost empty: { length (rows_of none) ≡ 0 },
 }

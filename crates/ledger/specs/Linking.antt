@@ -1,10 +1,9 @@
 -- Linking: each reference resolved to a unit and an entry, by the present imports of its unit.
-use Rattle.std.specs.Prelude.{ℕ, zero, suc, ◌+◌, not, List, [], ◌∷◌, map, Some, None, Option}
+use Rattle.std.specs.Prelude.{ℕ, zero, suc, ◌+◌, not, List, [], ◌∷◌, map, Some, None, Option, option_and_then, position}
 use Rattle.std.specs.Option.{unwrap_or}
 use Rattle.std.specs.List.{slice_get}
 use Rattle.names.specs.declared.name.Name.{Name}
 use Rattle.product.specs.declared.row.Reference.{Reference}
-use Rattle.order.specs.Dependency.{first}
 use Rattle.project.specs.Members.{Member, at}
 use Rattle.project.specs.Checked.{Verdict, missing, circle, linked, nothing, checked}
 use Rattle.image.specs.declared.target.Target.{Target}
@@ -23,8 +22,7 @@ plain d = record { code = d.parts.code; entries = d.parts.entries; references = 
 
 -- the place of the unit of a name, if there is one
 abbrev pub place_of : List Member → Option Name → Option ℕ
-place_of us (Some n) = at n us
-place_of us None = None
+place_of us o = option_and_then (λ n. at n us) o
 
 -- where a reference of the unit at place i goes: 0 is the unit itself, else the unit of the import at that position
 abbrev pub target_place : List Member → ℕ → Member → ℕ → Option ℕ
@@ -58,7 +56,7 @@ pub data Linking : Type 0 where
 
 -- the first reference whose entry is missing
 abbrev pub lacking : List (List ℕ) → List Target → Option ℕ
-lacking ess ts = first (λ _ t. not (present ess t)) ts
+lacking ess ts = position (λ t. not (present ess t)) ts
 
 abbrev pub link_by : Name → Option ℕ → Linking → Linking
 link_by n (Some k) rest = broken n k

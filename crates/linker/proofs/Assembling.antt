@@ -1,9 +1,9 @@
 -- Units put together one after the other.
-use Rattle.std.proofs.Common.{◌≡◌, ℕ, zero, suc, ◌+◌, ◌<◌, ◌≤◌, cond, List, [], ◌∷◌, ◌++◌, map, length, get_or, take, drop, Some, None, Ok, Err, Option, Result, unwrap_or, sym, refl, ap, ◌∙◌, subst, inl, inr, add-zero, add_assoc, one-add, arith}
-use Rattle.std.specs.Option.{option_map, option_to_list}
+use Rattle.std.proofs.Common.{◌≡◌, ℕ, zero, suc, ◌+◌, ◌<◌, ◌≤◌, List, [], ◌∷◌, ◌++◌, map, length, get_or, take, drop, Some, None, Ok, Err, Option, Result, unwrap_or, sym, refl, ap, ◌∙◌, subst, inl, inr, add-zero, add_assoc, one-add, arith}
+use Rattle.std.specs.Option.{option_map, option_to_list, option_and_then}
 use Rattle.std.specs.List.{slice_get}
 use Rattle.std.proofs.lemmas.List.{take_more, take_all, drop_more, drop_all, length-map, length-take-le}
-use Rattle.std.proofs.lemmas.Option.{slice_get-get_or, slice_get_past}
+use Rattle.std.proofs.lemmas.Option.{slice_get-get_or, slice_get_past, slice_get-map, none-some, same_Some}
 use Rattle.std.proofs.lemmas.Bool.{cases_lt}
 use Rattle.names.specs.declared.name.Name.{Name}
 use Rattle.product.specs.declared.row.Reference.{Reference}
@@ -11,12 +11,12 @@ use Rattle.image.specs.declared.target.Target.{Target}
 use Rattle.image.specs.Picture.{Units, with_unit}
 use Rattle.project.specs.Members.{Member, same, at}
 use Rattle.project.specs.Checked.{names}
+use Rattle.project.proofs.Places.{position-map}
 use Rattle.ledger.specs.Fresh.{Made, in_order}
-use Rattle.ledger.specs.Linking.{Plain, plain, place_of, target_place, resolved, targets, units_of, broken, whole, lacking, link_by, tested_from, linking}
-use Rattle.linker.specs.Place.{named, named_by, goal, resolved_by}
-use Rattle.linker.specs.declared.assembly.Missing.{Missing}
+use Rattle.ledger.specs.Linking.{Plain, plain, target_place, resolved, targets, units_of, broken, whole, lacking, link_by, tested_from, linking}
+use Rattle.linker.specs.Place.{named, goal, resolved_by}
+use Rattle.linker.specs.declared.assembler.Missing.{Missing}
 use Rattle.linker.specs.Assembled.{entries_of, targets_of, Added}
-use Rattle.linker.proofs.Adding.{never}
 
 -- ---- an element at a place
 
@@ -24,7 +24,7 @@ pub here : {X : Type 0} (xs : List X) (k : ℕ) (x : X) → slice_get xs k ≡ S
 here xs k x e =
     elim (cases_lt k (length xs)) [
       | inl h ↦ (h, let a = slice_get-get_or xs k x h in cc)
-      | inr h ↦ absurd (never x (slice_get xs k) (sym (slice_get_past xs k h)) e)
+      | inr h ↦ absurd (none-some x (sym (slice_get_past xs k h) ∙ e))
     ]
 
 pub some_at : {X : Type 0} (xs : List X) (k : ℕ) → k < length xs → (x : X) × (slice_get xs k ≡ Some x)
@@ -32,10 +32,9 @@ some_at [] k h = absurd (omega arith)
 some_at (x ∷ xs) zero h = (x, refl)
 some_at (x ∷ xs) (suc k) h = some_at xs k (omega arith)
 
+-- what a function makes of it
 nth-map : {X Y : Type 0} (f : X → Y) (xs : List X) (k : ℕ) (x : X) → slice_get xs k ≡ Some x → slice_get (map f xs) k ≡ Some (f x)
-nth-map f [] k x e = absurd (never x None refl e)
-nth-map f (y ∷ ys) zero x e = ap (option_map f) e
-nth-map f (y ∷ ys) (suc k) x e = nth-map f ys k x e
+nth-map f xs k x e = slice_get-map f xs k ∙ ap (option_map f) e
 
 drops : {X : Type 0} (xs : List X) (k : ℕ) (x : X) → slice_get xs k ≡ Some x → drop k xs ≡ x ∷ drop (k + 1) xs
 drops xs k x e = let h = here xs k x e in drop_more xs k x h.0 ∙ ap (λ y. y ∷ drop (k + 1) xs) h.1
@@ -54,7 +53,7 @@ few_order vs (p ∷ ps) = by (slice_get vs p) (few_order vs ps)
     by None h = omega arith
 
 pub unit_at : (vs : List Member) (ps : List ℕ) (k : ℕ) (u : Member) → length (in_order vs ps) ≡ length ps → slice_get (in_order vs ps) k ≡ Some u → slice_get vs (get_or ps k 0) ≡ Some u
-unit_at vs [] k u e h = absurd (never u None refl h)
+unit_at vs [] k u e h = absurd (none-some u h)
 unit_at vs (p ∷ ps) k u e h = by (slice_get vs p) refl k e h (λ j f g. unit_at vs ps j u f g)
   where
     by : (o : Option Member) → slice_get vs p ≡ o → (k : ℕ) → length (option_to_list o ++ in_order vs ps) ≡ suc (length ps) → slice_get (option_to_list o ++ in_order vs ps) k ≡ Some u → ((j : ℕ) → length (in_order vs ps) ≡ length ps → slice_get (in_order vs ps) j ≡ Some u → slice_get vs (get_or ps j 0) ≡ Some u) → slice_get vs (get_or (p ∷ ps) k 0) ≡ Some u
@@ -65,23 +64,18 @@ unit_at vs (p ∷ ps) k u e h = by (slice_get vs p) refl k e h (λ j f g. unit_a
 -- ---- references resolved by names
 
 at_named : (n : Name) (us : List Member) → at n us ≡ named n (names us)
-at_named n [] = refl
-at_named n (u ∷ us) = ap (λ o. cond (same u.name n) (Some 0) (option_map suc o)) (at_named n us)
+at_named n us = sym (position-map (λ m. same m n) (λ (u : Member). u.name) us)
 
 goal_is : (us : List Member) (i : ℕ) (u : Member) (k : ℕ) → target_place us i u k ≡ goal (names us) i u.imports k
 goal_is us i u zero = refl
-goal_is us i u (suc k) = by (slice_get u.imports k)
-  where
-    by : (o : Option Name) → place_of us o ≡ named_by (names us) o
-    by (Some n) = at_named n us
-    by None = refl
+goal_is us i u (suc k) = λ j. option_and_then (λ n. at_named n us j) (slice_get u.imports k)
 
 pub resolved_is : (us : List Member) (i : ℕ) (u : Member) (r : Reference) → resolved us i u r ≡ resolved_by (names us) i u.imports r
 resolved_is us i u r = ap (λ o. record { unit = unwrap_or o 0; entry = r.entry }) (goal_is us i u r.position)
 
 targets-at : (us : List Member) (i : ℕ) (vs : List Member) (ds : List Made) (k : ℕ) (u : Member) (d : Made) → slice_get vs k ≡ Some u → slice_get ds k ≡ Some d → slice_get (targets us i vs (map plain ds)) k ≡ Some (map (resolved us (i + k) u) d.parts.references)
-targets-at us i [] ds k u d e f = absurd (never u None refl e)
-targets-at us i (v ∷ vs) [] k u d e f = absurd (never d None refl f)
+targets-at us i [] ds k u d e f = absurd (none-some u e)
+targets-at us i (v ∷ vs) [] k u d e f = absurd (none-some d f)
 targets-at us i (v ∷ vs) (x ∷ ds) zero u d e f =
     let p : v ≡ u = cc in
     let q : x ≡ d = cc in
@@ -163,19 +157,26 @@ module _ (vs : List Member) (places : List ℕ) (ds : List Made) (k : ℕ) (imag
   After after (Ok x) = SoFar us ds (k + 1) after
   After after (Err e) = broken e.unit e.reference ≡ linking us (map plain ds)
 
-  pub turned : (after : Units) (r : Result (Unit {0}) Missing)
-      → ((u : Member) (d : Made) → slice_get vs (get_or places k 0) ≡ Some u → slice_get ds k ≡ Some d → length image.names < 24 → Added (entries_of ds) (targets_of slice k u d) u d image after r)
+  -- the unit at the place
+  here-unit : (u : Member) × (slice_get us k ≡ Some u) × (slice_get vs (get_or places k 0) ≡ Some u)
+  here-unit = let u = some_at us k (omega arith) in (u.0, u.1, unit_at vs places k u.0 whole-order u.1)
+
+  -- there is one
+  pub never_none : slice_get vs (get_or places k 0) ≡ None → ⊥
+  never_none e = none-some _ (sym e ∙ here-unit.2)
+
+  pub turned : (after : Units) (r : Result (Unit {0}) Missing) (u : Member) → slice_get vs (get_or places k 0) ≡ Some u
+      → ((d : Made) → slice_get ds k ≡ Some d → length image.names < 24 → Added (entries_of ds) (targets_of slice k u d) u d image after r)
       → After after r
-  turned after r added =
-      let u = some_at us k (omega arith) in
+  turned after r u e added =
       let d = some_at ds k (omega arith) in
+      let is : here-unit.0 ≡ u = same_Some here-unit.0 u (sym here-unit.2 ∙ e) in
       let a : length (map (λ (x : Member). x.name) us) ≡ length us = length-map us (λ (x : Member). x.name) in
       let b = length-take-le k (map (λ (x : Member). x.name) us) (omega arith) in
       let n : length image.names ≡ length (take k (map (λ (x : Member). x.name) us)) = ap (λ (i : Units). length i.names) inv.1 in
-      by u.0 d.0 u.1 d.1 r
-      (subst (λ ns. Added (entries_of ds) (targets_of ns k u.0 d.0) u.0 d.0 image after r) named
-      (added u.0 d.0 (unit_at vs places k u.0 whole-order u.1) d.1 (omega arith)))
+      by d.0 (here-unit.1 ∙ ap Some is) d.1 r
+      (subst (λ ns. Added (entries_of ds) (targets_of ns k u d.0) u d.0 image after r) named (added d.0 d.1 (omega arith)))
     where
-      by : (u : Member) (d : Made) → slice_get us k ≡ Some u → slice_get ds k ≡ Some d → (r : Result (Unit {0}) Missing) → Added (entries_of ds) (targets_of (names us) k u d) u d image after r → After after r
-      by u d e f (Ok x) g = more us ds k u d e f image after inv g.0 g.1
-      by u d e f (Err x) g = ap (λ n. broken n x.reference) g.1 ∙ sym (stops us ds k u d e f image x.reference inv g.0)
+      by : (d : Made) → slice_get us k ≡ Some u → slice_get ds k ≡ Some d → (r : Result (Unit {0}) Missing) → Added (entries_of ds) (targets_of (names us) k u d) u d image after r → After after r
+      by d e f (Ok x) g = more us ds k u d e f image after inv g.0 g.1
+      by d e f (Err x) g = ap (λ n. broken n x.reference) g.1 ∙ sym (stops us ds k u d e f image x.reference inv g.0)

@@ -1,4 +1,2 @@
-pub mod Adding
 pub mod Assembling
 pub mod Listing
-pub mod Resolved

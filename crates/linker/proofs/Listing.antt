@@ -1,18 +1,12 @@
 -- Units in link order, their names and what they offer.
-use Rattle.std.proofs.Common.{◌≡◌, ℕ, zero, suc, ◌+◌, ◌<◌, ◌≤◌, Bool, true, false, cond, not, List, [], ◌∷◌, ◌++◌, length, get_or, take, is_some, Some, None, sym, refl, ap, ◌∙◌, inl, inr, append_assoc, append-nil, arith, length-append}
+use Rattle.std.proofs.Common.{◌≡◌, ℕ, zero, suc, ◌+◌, ◌<◌, ◌≤◌, Bool, true, false, cond, List, [], ◌∷◌, ◌++◌, length, get_or, take, is_some, Some, None, Option, sym, refl, ap, ◌∙◌, append_assoc, append-nil, arith, length-append}
 use mathlib.Core.List.{map-append}
-use Rattle.std.specs.Option.{option_map, option_to_list}
+use Rattle.std.specs.Option.{MatchOption, option_map, option_to_list}
 use Rattle.std.specs.List.{slice_get}
 use Rattle.std.proofs.lemmas.List.{take_more}
-use Rattle.std.proofs.lemmas.Option.{slice_get_past}
-use Rattle.std.proofs.lemmas.Bool.{true≢false, lt-ltb, le-ltb, cases_lt}
-use Rattle.building.specs.declared.table.Done.{Done}
-use Rattle.building.specs.Finish.{done_list}
-use Rattle.building.proofs.Finishing.{done-length}
+use Rattle.std.proofs.lemmas.Bool.{true≢false}
 use Rattle.names.specs.declared.name.Name.{Name}
 use Rattle.product.specs.Parts.{Parts}
-use Rattle.image.specs.declared.target.Target.{Target}
-use Rattle.image.specs.Picture.{present}
 use Rattle.project.specs.Members.{Member}
 use Rattle.project.specs.Checked.{names}
 use Rattle.ledger.specs.Fresh.{Made, in_order}
@@ -36,30 +30,21 @@ names_more vs ps i h =
     ∙ ap (λ ns. names (in_order vs (take i ps)) ++ ns) (name-at vs (get_or ps i 0))
 
 -- the entries of the unit at a place
-pub offered : (ds : List Made) (i : ℕ) (p : Parts) → Some p ≡ option_map (λ (d : Made). d.parts) (slice_get ds i) → p.entries ≡ get_or (entries_of ds) i []
+offered : (ds : List Made) (i : ℕ) (p : Parts) → Some p ≡ option_map (λ (d : Made). d.parts) (slice_get ds i) → p.entries ≡ get_or (entries_of ds) i []
 offered [] i p e = absurd (true≢false (ap is_some e))
 offered (d ∷ ds) zero p e = let q : p ≡ d.parts = cc in ap (λ (x : Parts). x.entries) q
 offered (d ∷ ds) (suc i) p e = offered ds i p e
 
-pub offered_none : (ds : List Made) (i : ℕ) → None ≡ option_map (λ (d : Made). d.parts) (slice_get ds i) → [] ≡ get_or (entries_of ds) i []
+offered_none : (ds : List Made) (i : ℕ) → None ≡ option_map (λ (d : Made). d.parts) (slice_get ds i) → [] ≡ get_or (entries_of ds) i []
 offered_none [] i e = refl
 offered_none (d ∷ ds) zero e = absurd (true≢false (sym (ap is_some e)))
 offered_none (d ∷ ds) (suc i) e = offered_none ds i e
 
--- a target by how many entries there are
-pub absent : (ess : List (List ℕ)) (t : Target) (n e : ℕ) → n ≡ length (get_or ess t.unit []) → e ≡ t.entry → n ≤ e → not (present ess t) ≡ true
-absent ess t n e p q h = ap not (le-ltb t.entry (length (get_or ess t.unit [])) (omega arith))
-
-pub there : (ess : List (List ℕ)) (t : Target) (n e : ℕ) → n ≡ length (get_or ess t.unit []) → e ≡ t.entry → e < n → not (present ess t) ≡ false
-there ess t n e p q h = ap not (lt-ltb t.entry (length (get_or ess t.unit [])) (omega arith))
+-- how many entries are told of it
+pub offered_by : {R : Type 0} (v : R → Parts) (ds : List Made) (i : ℕ) (o : Option R) (r : ℕ) (P : R → Type 0) → option_map v o ≡ option_map (λ (d : Made). d.parts) (slice_get ds i) → MatchOption o (r ≡ 0) P → ((x : R) → P x → r ≡ length (v x).entries) → r ≡ length (get_or (entries_of ds) i [])
+offered_by v ds i (Some x) r P e m f = f x m ∙ ap length (offered ds i (v x) e)
+offered_by v ds i None r P e m f = m ∙ ap length (offered_none ds i e)
 
 pub few_names : (was now : List Name) (n : Name) (r : Bool) (i : ℕ) → now ≡ cond r (was ++ n ∷ []) was → length was ≤ i → length now ≤ i + 1
 few_names was now n true i e h = let a = ap length e in let b = length-append was (n ∷ []) in omega arith
 few_names was now n false i e h = let a = ap length e in omega arith
-
-pub few_done : (d : Done) (i : ℕ) (p : Parts) → Some p ≡ option_map (λ (m : Made). m.parts) (slice_get (done_list d) i) → i < 24
-few_done d i p e =
-    elim (cases_lt i (length (done_list d))) [
-      | inl h ↦ let n = done-length d in let f = d.few in omega arith
-      | inr h ↦ absurd (true≢false (ap is_some (e ∙ ap (option_map (λ (m : Made). m.parts)) (slice_get_past (done_list d) i h))))
-    ]

@@ -6,7 +6,7 @@ use Rattle.image.specs.Picture.{Units, with_unit}
 use Rattle.project.specs.Members.{Member}
 use Rattle.ledger.specs.Fresh.{Made}
 use Rattle.ledger.specs.Linking.{Plain, plain, Linking, broken, whole, lacking}
-use Rattle.linker.specs.declared.assembly.Missing.{Missing}
+use Rattle.linker.specs.declared.assembler.Missing.{Missing}
 use Rattle.linker.specs.Place.{resolved_by}
 
 -- what was answered, with the units put together

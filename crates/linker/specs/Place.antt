@@ -1,25 +1,20 @@
 -- The units in link order by their names.
-use Rattle.std.specs.Prelude.{ℕ, zero, suc, List, Some, None, Option}
+use Rattle.std.specs.Prelude.{ℕ, zero, suc, List, Some, Option, position, option_and_then}
 use Rattle.std.specs.Option.{unwrap_or}
 use Rattle.std.specs.List.{slice_get}
 use Rattle.names.specs.declared.name.Name.{Name}
-use Rattle.order.specs.Dependency.{first}
 use Rattle.product.specs.declared.row.Reference.{Reference}
 use Rattle.project.specs.Members.{same}
 use Rattle.image.specs.declared.target.Target.{Target}
 
 -- the place of a name
 abbrev pub named : Name → List Name → Option ℕ
-named n ms = first (λ _ m. same m n) ms
-
-abbrev pub named_by : List Name → Option Name → Option ℕ
-named_by ms (Some n) = named n ms
-named_by ms None = None
+named n ms = position (λ m. same m n) ms
 
 -- where a position of the unit at place i goes: 0 is the unit itself, else the import at that position
 abbrev pub goal : List Name → ℕ → List Name → ℕ → Option ℕ
 goal ms i imports zero = Some i
-goal ms i imports (suc k) = named_by ms (slice_get imports k)
+goal ms i imports (suc k) = option_and_then (λ n. named n ms) (slice_get imports k)
 
 -- a reference of the unit at place i, resolved among units of these names
 abbrev pub resolved_by : List Name → ℕ → List Name → Reference → Target

@@ -4,57 +4,48 @@ ghost use Rattle.std.specs.Option.{unwrap_or};
 ghost use Rattle.bounded.specs.Held.{held};
 ghost use Rattle.linker.specs.Place.{named, goal, resolved_by};
 
+use crate::site::Site;
 use bounded::Bounded;
 use image::Target;
 use names::Name;
 use product::Reference;
 
-// The place of a name.
-fn place(names: &[Name], name: Name) -> Option<usize>
-    ensures { result ≡ named name names.now }
-{
-    for (i, n) in names.iter().enumerate() {
-        if *n == name {
-            return Some(i);
+impl Site<'_> {
+    // The place of a name.
+    fn named(&self, name: Name) -> Option<usize>
+        ensures { result ≡ named name self.now.names.now }
+    {
+        self.names.iter().position(|n| *n == name)
+    }
+
+    // The place of the unit that a position goes to.
+    fn goal(&self, position: u8) -> Option<usize>
+        ensures { result ≡ goal self.now.names.now self.now.place self.now.imports.now position }
+    {
+        match position.checked_sub(1) {
+            None => Some(self.place),
+            Some(k) => self.named(*self.imports.get(usize::from(k))?),
         }
     }
-    None
-}
 
-// The unit that a position of the unit at place i goes to; 0 where there is none.
-fn target(names: &[Name], i: usize, imports: &[Name], position: u8) -> u8
-    requires { (length names.now ≤ 24) × (i < 24) }
-    ensures { result ≡ unwrap_or (goal names.now i imports.now position) 0 }
-{
-    if position == 0 {
-        return i as u8;
+    // A reference, resolved; to place 0 where its position goes to no unit.
+    fn resolved(&self, reference: &Reference) -> Target
+        ensures { result ≡ resolved_by self.now.names.now self.now.place self.now.imports.now reference.now }
+    {
+        Target {
+            unit: self.goal(reference.position).unwrap_or(0) as u8,
+            entry: reference.entry,
+        }
     }
-    let k = usize::from(position) - 1;
-    if k >= imports.len() {
-        return 0;
-    }
-    match place(names, imports[k]) {
-        Some(p) => p as u8,
-        None => 0,
-    }
-}
 
-// The references of the unit at place i, resolved.
-pub(crate) fn resolve(
-    names: &[Name],
-    i: usize,
-    imports: &[Name],
-    references: &[Reference],
-    targets: &mut Bounded<Target, 32>,
-)
-    requires { (length names.now ≤ 24) × ((i < 24) × (length references.now ≤ 32)) }
-    ensures { held targets.new ≡ map (resolved_by names.now i imports.now) references.now }
-{
-    targets.clear();
-    for r in references {
-        let _ = targets.push(Target {
-            unit: target(names, i, imports, r.position),
-            entry: r.entry,
-        });
+    // References, resolved.
+    pub(crate) fn resolve(&self, references: &[Reference], targets: &mut Bounded<Target, 32>)
+        requires { length references.now ≤ 32 }
+        ensures { held targets.new ≡ map (resolved_by self.now.names.now self.now.place self.now.imports.now) references.now }
+    {
+        targets.clear();
+        for r in references {
+            let _ = targets.push(self.resolved(r));
+        }
     }
 }

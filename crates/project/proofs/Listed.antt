@@ -1,14 +1,24 @@
 -- What the loops of a check list, one unit after another.
-use Rattle.std.proofs.Common.{◌≡◌, ℕ, zero, suc, ◌+◌, ◌<◌, Bool, true, false, cond, not, ◌&&◌, ◌||◌, eqb, ltb, ◌⊎◌, List, [], ◌∷◌, ◌++◌, length, get_or, take, is_some, sym, refl, ap, ◌∙◌, inl, inr, add-zero, arith}
-use Rattle.std.proofs.lemmas.List.{append-nil, append_assoc, take_more}
-use Rattle.std.proofs.lemmas.Bool.{lt-ltb, le-ltb, eq-eqb, ne_eqb, cases_order}
+use Rattle.std.proofs.Common.{◌≡◌, ℕ, suc, ◌+◌, ◌<◌, ◌≤◌, Bool, true, false, cond, not, ◌&&◌, ltb, leb, List, [], ◌∷◌, ◌++◌, map, length, get_or, take, sym, ap, ◌∙◌, add-zero, arith}
+use Rattle.std.proofs.lemmas.List.{append-nil, append_assoc, take_more, length-map, length-take-le, map-append}
+use Rattle.std.proofs.lemmas.Bool.{lt-ltb, le-leb}
+use Rattle.std.proofs.lemmas.Grind.{common_steps}
+use Rattle.std.proofs.lemmas.Bool.Decides.{nat_tests}
 use Rattle.order.specs.Dependency.{placed}
-use Rattle.project.specs.Members.{Member}
-use Rattle.project.specs.Checked.{needs_for, needs, lack, lacks}
+use Rattle.bounded.specs.Held.{held}
+use Rattle.project.specs.declared.unit.Unit.{Unit}
+use Rattle.project.specs.Members.{Member, member}
+use Rattle.project.specs.Checked.{needs_for, needs}
 
 -- one element more, where there is room
 pub grown : {X : Type 0} (was now xs : List X) (x : X) (r : Bool) (n : ℕ) → r ≡ ltb (length was) n → now ≡ cond r (was ++ x ∷ []) was → length was < n → was ≡ xs → now ≡ xs ++ x ∷ []
 grown was now xs x r n f a h e = a ∙ ap (λ b. cond b (was ++ x ∷ []) was) (f ∙ lt-ltb (length was) n h) ∙ ap (λ ys. ys ++ x ∷ []) e
+
+-- a list emptied, and more elements where there is room
+pub refilled : {X : Type 0} (was now more : List X) (t : Bool) (n : ℕ) → was ≡ [] → t ≡ leb (length was + length more) n → now ≡ cond t (was ++ more) was → length more ≤ n → now ≡ more
+refilled was now more t n e f a h =
+    let none : length was ≡ 0 = ap length e in
+    a ∙ ap (λ b. cond b (was ++ more) was) (f ∙ le-leb (length was + length more) n (omega arith)) ∙ ap (λ xs. xs ++ more) e
 
 needs_push : (j : ℕ) (vs : List Member) (v : Member) → needs j (vs ++ v ∷ []) ≡ needs j vs ++ needs_for (j + length vs) v.imports
 needs_push j [] v = append-nil (needs_for j v.imports) ∙ ap (λ k. needs_for k v.imports) (sym (add-zero j))
@@ -18,60 +28,20 @@ needs_push j (w ∷ ws) v =
     ∙ sym (append_assoc (needs_for j w.imports) (needs (j + 1) ws) (needs_for (j + suc (length ws)) v.imports))
 
 -- the needs of one unit more
-pub needs-more : (vs : List Member) (i : ℕ) (v : Member) → i < length vs → get_or vs i v ≡ v → length (take i vs) ≡ i → needs 0 (take i vs) ++ needs_for i v.imports ≡ needs 0 (take (i + 1) vs)
-needs-more vs i v h e l =
-    let k : 0 + length (take i vs) ≡ i = omega arith in
-    sym (ap (needs 0) (take_more vs i v h ∙ ap (λ w. take i vs ++ w ∷ []) e) ∙ needs_push 0 (take i vs) v ∙ ap (λ m. needs 0 (take i vs) ++ needs_for m v.imports) k)
-
-or_false : (b : Bool) → (b || false) ≡ b
-or_false true = refl
-or_false false = refl
-
-pub placed_push : (d : List ℕ) (x k : ℕ) → placed (d ++ x ∷ []) k ≡ (placed d k || eqb x k)
-placed_push [] x k = or_false (eqb x k)
-placed_push (y ∷ d) x k = ap (λ b. eqb y k || b) (placed_push d x k) ∙ sym (or_assoc (eqb y k) (placed d k) (eqb x k))
-  where
-    or_assoc : (a b c : Bool) → ((a || b) || c) ≡ (a || (b || c))
-    or_assoc true b c = refl
-    or_assoc false b c = refl
-
-pub lacks-at : (vs us : List Member) (i : ℕ) (u : Member) → i < length us → get_or us i u ≡ u → lacks vs us i ≡ is_some (lack vs u.imports)
-lacks-at vs [] i u h e = absurd (omega arith)
-lacks-at vs (w ∷ us) zero u h e = ap (λ x. is_some (lack vs x.imports)) e
-lacks-at vs (w ∷ us) (suc i) u h e = lacks-at vs us i u (omega arith) e
+pub needs-more : (us : List Unit) (i : ℕ) (u : Unit) → i < length us → u ≡ get_or us i u → needs 0 (map member (take i us)) ++ needs_for i (held u.imports) ≡ needs 0 (map member (take (i + 1) us))
+needs-more us i u h e =
+    let l : length (map member (take i us)) ≡ length (take i us) = length-map (take i us) member in
+    let part = length-take-le i us (omega arith) in
+    let k : 0 + length (map member (take i us)) ≡ i = omega arith in
+    ap (λ m. needs 0 (map member (take i us)) ++ needs_for m (held u.imports)) (sym k)
+    ∙ sym (needs_push 0 (map member (take i us)) (member u))
+    ∙ ap (needs 0) (sym (map-append member (take i us) (u ∷ [])))
+    ∙ ap (λ xs. needs 0 (map member xs)) (ap (λ w. take i us ++ w ∷ []) e ∙ sym (take_more us i u h))
 
 -- the units below i that lack nothing, with and without the one at i
 module _ (test : ℕ → Bool) (i : ℕ) (was now : List ℕ) (inv : (k : ℕ) → placed was k ≡ (ltb k i && not (test k))) where
   pub whole-more : test i ≡ false → now ≡ was ++ i ∷ [] → (k : ℕ) → placed now k ≡ (ltb k (i + 1) && not (test k))
-  whole-more t e k =
-      ap (λ d. placed d k) e ∙ placed_push was i k ∙ ap (λ b. b || eqb i k) (inv k) ∙ by (cases_order k i)
-    where
-      by : (k ≡ i) ⊎ ((k < i) ⊎ (i < k)) → ((ltb k i && not (test k)) || eqb i k) ≡ (ltb k (i + 1) && not (test k))
-      by (inl q) =
-          let here : ltb k i ≡ false = le-ltb k i (omega arith) in
-          let next : ltb k (i + 1) ≡ true = lt-ltb k (i + 1) (omega arith) in
-          let free : test k ≡ false = ap test q ∙ t in
-          (λ j. (here j && not (test k)) || eq-eqb i k (sym q) j) ∙ sym (λ j. next j && not (free j))
-      by (inr (inl l)) =
-          let next : ltb k (i + 1) ≡ true = lt-ltb k (i + 1) (omega arith) in
-          (λ j. (lt-ltb k i l j && not (test k)) || ne_eqb i k (λ q. omega arith) j) ∙ or_false (not (test k)) ∙ sym (ap (λ b. b && not (test k)) next)
-      by (inr (inr l)) =
-          let next : ltb k (i + 1) ≡ false = le-ltb k (i + 1) (omega arith) in
-          (λ j. (le-ltb k i (omega arith) j && not (test k)) || ne_eqb i k (λ q. omega arith) j) ∙ sym (ap (λ b. b && not (test k)) next)
+  whole-more t e k = grind (arith, common_steps, nat_tests, inv k, t, e)
 
   pub whole_same : test i ≡ true → now ≡ was → (k : ℕ) → placed now k ≡ (ltb k (i + 1) && not (test k))
-  whole_same t e k = ap (λ d. placed d k) e ∙ inv k ∙ by (cases_order k i)
-    where
-      by : (k ≡ i) ⊎ ((k < i) ⊎ (i < k)) → (ltb k i && not (test k)) ≡ (ltb k (i + 1) && not (test k))
-      by (inl q) =
-          let here : ltb k i ≡ false = le-ltb k i (omega arith) in
-          let next : ltb k (i + 1) ≡ true = lt-ltb k (i + 1) (omega arith) in
-          let taken : test k ≡ true = ap test q ∙ t in
-          ap (λ b. b && not (test k)) here ∙ sym (λ j. next j && not (taken j))
-      by (inr (inl l)) =
-          let next : ltb k (i + 1) ≡ true = lt-ltb k (i + 1) (omega arith) in
-          ap (λ b. b && not (test k)) (lt-ltb k i l ∙ sym next)
-      by (inr (inr l)) =
-          let here : ltb k i ≡ false = le-ltb k i (omega arith) in
-          let next : ltb k (i + 1) ≡ false = le-ltb k (i + 1) (omega arith) in
-          ap (λ b. b && not (test k)) (here ∙ sym next)
+  whole_same t e k = grind (arith, common_steps, nat_tests, inv k, t, e)

@@ -1,30 +1,28 @@
 -- Whether a project can be linked: every import a unit, and no circle.
-use Rattle.std.specs.Prelude.{◌≡◌, ℕ, zero, suc, ◌+◌, ◌<◌, Bool, false, not, List, [], ◌∷◌, ◌++◌, map, length, take, is_some, Some, None, Ok, Err, Option, Result}
+use Rattle.std.specs.Prelude.{ℕ, suc, ◌+◌, Bool, false, not, List, [], ◌∷◌, ◌++◌, map, is_some, Some, None, Ok, Err, Option, Result, position}
+use Rattle.std.specs.Option.{unwrap_or, option_map, option_map_or}
 use Rattle.std.specs.List.{slice_get}
 use Rattle.names.specs.declared.name.Name.{Name}
 use Rattle.names.specs.declared.refusal.Refusal.{Refusal}
 use Rattle.names.specs.declared.refusal.Refusal.TheVariants.{NotAName, SourceTooLong, TooManyImports, TooManyUnits, NoSuchUnit, TooManyRows, ImportMissing, ImportCircle, Faulty, StoreFull, RecordTooLong, BufferTooShort, NotBuilt, ImageTooLong, EntryMissing, NotAnImage, NotAnArtifact}
 use Rattle.names.specs.Ordered.{name_cmp}
+use Rattle.bounded.specs.Held.{held}
 use Rattle.order.specs.declared.Need.{Need}
-use Rattle.order.specs.declared.Unordered.{Unordered}
-use Rattle.order.specs.declared.Unordered.TheVariants.{Stuck}
-use Rattle.order.specs.Dependency.{Outcome, all, stuck, first, smallest, ordered}
+use Rattle.order.specs.Dependency.{Outcome, all, stuck, smallest, ordered}
 use Rattle.project.specs.declared.links.Links.{Links}
 use Rattle.project.specs.Members.{Member, at}
 
 -- the places that a check left
 abbrev pub order_of : Links → List ℕ
-order_of l = take l.count l.places
+order_of l = held l.places
 
 -- the first import that is no unit, counted from 0
 abbrev pub lack : List Member → List Name → Option ℕ
-lack vs imports = first (λ _ n. not (is_some (at n vs))) imports
+lack vs imports = position (λ n. not (is_some (at n vs))) imports
 
 -- the unit at a place has an import that is no unit
 abbrev pub lacks : List Member → List Member → ℕ → Bool
-lacks vs [] i = false
-lacks vs (u ∷ us) zero = is_some (lack vs u.imports)
-lacks vs (u ∷ us) (suc i) = lacks vs us i
+lacks vs us i = option_map_or (λ (u : Member). is_some (lack vs u.imports)) (slice_get us i) false
 
 -- the names of the units
 abbrev pub names : List Member → List Name
@@ -50,19 +48,9 @@ abbrev pub by_order : List Member → Outcome → Verdict
 by_order vs (all places) = linked places
 by_order vs (stuck places i) = circle (slice_get (names vs) i)
 
--- what ordering the units leaves
-abbrev pub Arranged : List Member → List ℕ → Result (Unit {0}) Unordered → Outcome → Type 0
-Arranged vs places r (all done) = (r ≡ Ok tt) × (take (length vs) places ≡ done)
-Arranged vs places r (stuck done i) = (r ≡ Err (Stuck i)) × (i < length vs)
-
--- the position behind the one counted from 0
-abbrev pub position : Option ℕ → ℕ
-position (Some k) = k + 1
-position None = 0
-
--- the position of the first import of the unit at a place that is no unit
+-- the position, counted from 1, of the first import of the unit at a place that is no unit
 abbrev pub lack_at : List Member → Option Member → ℕ
-lack_at vs (Some u) = position (lack vs u.imports)
+lack_at vs (Some u) = unwrap_or (option_map suc (lack vs u.imports)) 0
 lack_at vs None = 0
 
 abbrev pub by_lack : List Member → Option ℕ → Verdict

@@ -1,9 +1,8 @@
 -- The units of a project as a list, and what put and remove make of it.
-use Rattle.std.specs.Prelude.{ℕ, Bool, cond, not, ◌&&◌, List, [], ◌∷◌, map, length, take, is_some, vec_items, Option, nat_le, nat_lt}
+use Rattle.std.specs.Prelude.{ℕ, Bool, cond, not, ◌&&◌, List, [], ◌∷◌, map, length, is_some, Option, nat_le, nat_lt, position}
 use Rattle.std.specs.Str.{bytes_eq}
 use Rattle.names.specs.declared.name.Name.{Name}
-use Rattle.bounded.specs.Held.{held}
-use Rattle.order.specs.Dependency.{first}
+use Rattle.bounded.specs.Held.{held, used}
 use Rattle.project.specs.declared.unit.Unit.{Unit}
 use Rattle.project.specs.declared.whole.Project.{Project}
 
@@ -17,17 +16,17 @@ pub record Member : Type 0 where
 abbrev pub same : Name → Name → Bool
 same a b = bytes_eq a.bytes b.bytes
 
--- what a row of the table holds
+-- a unit as a member
 abbrev pub member : Unit → Member
 member u = record { name = u.name; imports = held u.imports; source = held u.source }
 
 -- the units of a project, in the order in which they came
 abbrev pub members : Project → List Member
-members p = take p.count (map member (vec_items p.table.rows))
+members p = map member (used p.units)
 
 -- the place of the unit of a name
 abbrev pub at : Name → List Member → Option ℕ
-at n vs = first (λ _ v. same v.name n) vs
+at n vs = position (λ v. same v.name n) vs
 
 -- the unit in the place of the one of its name, or behind all others
 abbrev pub with : Member → List Member → List Member

@@ -1,5 +1,5 @@
 // The check of a project: its link order, or why it has none.
-ghost use Rattle.std.specs.Prelude.{◌≡◌, ℕ, ◌+◌, ◌*◌, ◌<◌, ◌≤◌, not, [], ◌∷◌, ◌++◌, map, length, IfOk, Some};
+ghost use Rattle.std.specs.Prelude.{◌≡◌, ℕ, ◌+◌, ◌*◌, ◌<◌, ◌≤◌, not, [], ◌∷◌, ◌++◌, map, length, IfOk, MatchResult, Some};
 ghost use Rattle.std.specs.List.{slice_get};
 ghost use Rattle.names.specs.Ordered.{name_cmp};
 ghost use Rattle.bounded.specs.Held.{held};
@@ -7,7 +7,7 @@ ghost use Rattle.names.specs.Refusals.{answer};
 ghost use Rattle.std.specs.Option.{option_map};
 ghost use Rattle.project.specs.Members.{member, members};
 ghost use Rattle.order.specs.Dependency.{placed, smallest, ordered};
-ghost use Rattle.project.specs.Checked.{order_of, Arranged, lack, lack_at, lacks, needs_for, names as names_of, needs as needs_of, checked, verdict_number, shown};
+ghost use Rattle.project.specs.Checked.{order_of, lack, lack_at, lacks, missing, circle, linked, needs_for, names as names_of, needs as needs_of, by_order, checked, verdict_number, shown};
 
 use crate::links::Links;
 use crate::unit::Unit;
@@ -19,15 +19,24 @@ use std::alloc::{AllocError, Global};
 
 impl Project {
     // The first of these names that is no unit.
-    pub(crate) fn lack(&self, imports: &[Name]) -> Option<usize>
+    fn lack(&self, imports: &[Name]) -> Option<usize>
         ensures { result ≡ lack (members self.now) imports.now }
     {
-        for (k, n) in imports.iter().enumerate() {
-            if self.find(*n).is_none() {
-                return Some(k);
-            }
-        }
-        None
+        imports.iter().position(|n| self.find(*n).is_none())
+    }
+
+    // The unit at a place.
+    pub fn unit(&self, i: usize) -> Option<&Unit>
+        ensures { option_map (λ u. member u.now) result ≡ slice_get (members self.now) i }
+    {
+        self.units.as_slice().get(i)
+    }
+
+    // The name of the unit at a place.
+    pub fn name(&self, i: usize) -> Option<Name>
+        ensures { result ≡ slice_get (names_of (members self.now)) i }
+    {
+        self.unit(i).map(|u| u.name())
     }
 }
 
@@ -35,8 +44,8 @@ fn list_names(names: &mut Bounded<Name, 24>, project: &Project)
     ensures { held names.new ≡ names_of (members project.now) }
 {
     names.clear();
-    for i in 0..project.count {
-        let _ = names.push(project.table.rows[i].name);
+    for unit in project.units.as_slice() {
+        let _ = names.push(unit.name());
     }
 }
 
@@ -54,8 +63,8 @@ fn list_needs(needs: &mut Bounded<Need<Name>, 96>, project: &Project)
     ensures { held needs.new ≡ needs_of 0 (members project.now) }
 {
     needs.clear();
-    for i in 0..project.count {
-        add_needs(needs, i, project.table.rows[i].imports.as_slice());
+    for (i, unit) in project.units.as_slice().iter().enumerate() {
+        add_needs(needs, i, unit.imports());
     }
 }
 
@@ -64,52 +73,9 @@ fn list_whole(whole: &mut Bounded<usize, 24>, project: &Project)
     ensures { (k : ℕ) → k < length (members project.now) → placed (held whole.new) k ≡ not (lacks (members project.now) (members project.now) k) }
 {
     whole.clear();
-    for i in 0..project.count {
-        if project
-            .lack(project.table.rows[i].imports.as_slice())
-            .is_none()
-        {
+    for (i, unit) in project.units.as_slice().iter().enumerate() {
+        if project.lack(unit.imports()).is_none() {
             let _ = whole.push(i);
-        }
-    }
-}
-
-impl Project {
-    // The unit at a place.
-    pub fn unit(&self, i: usize) -> Option<&Unit>
-        ensures { option_map (λ u. member u.now) result ≡ slice_get (members self.now) i }
-    {
-        if i >= self.count {
-            return None;
-        }
-        Some(&self.table.rows[i])
-    }
-
-    // The name of the unit at a place.
-    pub fn name(&self, i: usize) -> Option<Name>
-        ensures { result ≡ slice_get (names_of (members self.now)) i }
-    {
-        if i >= self.count {
-            return None;
-        }
-        Some(self.name_at(i))
-    }
-
-    fn name_at(&self, i: usize) -> Name
-        requires { i < self.now.count }
-        ensures { slice_get (names_of (members self.now)) i ≡ Some result }
-    {
-        self.table.rows[i].name
-    }
-
-    // The position, from 1, of the first import of the unit that is no unit, or 0.
-    fn lack_position(&self, i: usize) -> u8
-        requires { i < self.now.count }
-        ensures { result ≡ lack_at (members self.now) (slice_get (members self.now) i) }
-    {
-        match self.lack(self.table.rows[i].imports.as_slice()) {
-            Some(k) => k as u8 + 1,
-            None => 0,
         }
     }
 }
@@ -122,12 +88,12 @@ impl Links {
         let names = Bounded::open(heap)?;
         let needs = Bounded::open(heap)?;
         let whole = Bounded::open(heap)?;
+        let places = Bounded::open(heap)?;
         Ok(Links {
             names,
             needs,
             whole,
-            places: [0; 24],
-            count: 0,
+            places,
         })
     }
 
@@ -135,30 +101,39 @@ impl Links {
     pub fn places(&self) -> &[usize]
         ensures { result.now ≡ order_of self.now }
     {
-        &self.places[0..self.count]
+        self.places.as_slice()
     }
 
-    // The smallest unit that lacks an import.
-    fn lacking(&mut self, project: &Project) -> Option<usize>
-        ensures value { result ≡ smallest name_cmp (lacks (members project.now) (members project.now)) (names_of (members project.now)) }
+    // The name of the smallest unit that lacks an import, and the position, from 1, of the first that it lacks.
+    fn lacking(&mut self, project: &Project) -> Option<(Name, u8)>
+        ensures value { option_map (λ p. missing (Some p.0) p.1) result ≡ option_map (λ i. missing (slice_get (names_of (members project.now)) i) (lack_at (members project.now) (slice_get (members project.now) i))) (smallest name_cmp (lacks (members project.now) (members project.now)) (names_of (members project.now))) }
         ensures names { held self.new.names ≡ names_of (members project.now) }
     {
         list_names(&mut self.names, project);
         list_whole(&mut self.whole, project);
-        order::smallest_left(self.names.as_slice(), self.whole.as_slice())
+        let i = order::smallest_left(self.names.as_slice(), self.whole.as_slice())?;
+        let unit = project.unit(i)?;
+        let k = project.lack(unit.imports())?;
+        Some((unit.name(), k as u8 + 1))
     }
 
-    // Orders the units, whose names are listed.
-    fn arrange(&mut self, project: &Project) -> Result<(), Unordered>
+    // Orders the units, whose names are listed; or tells the smallest that a circle leaves over.
+    fn arrange(&mut self, project: &Project) -> Result<(), Name>
         requires { held self.old.names ≡ names_of (members project.now) }
-        ensures { Arranged (members project.now) self.new.places result (ordered name_cmp (names_of (members project.now)) (needs_of 0 (members project.now))) }
+        ensures { let found = by_order (members project.now) (ordered name_cmp (names_of (members project.now)) (needs_of 0 (members project.now))) in MatchResult result (λ _. linked (order_of self.new) ≡ found) (λ unit. circle (Some unit) ≡ found) }
     {
         list_needs(&mut self.needs, project);
-        order::order(
-            self.names.as_slice(),
-            self.needs.as_slice(),
-            &mut self.places,
-        )
+        let names = self.names.as_slice();
+        let mut places = [0; 24];
+        match order::order(names, self.needs.as_slice(), &mut places) {
+            Ok(()) => {
+                self.places.clear();
+                let _ = self.places.extend(&places[..names.len()]);
+                Ok(())
+            }
+            Err(Unordered::Stuck(i)) => Err(names[i]),
+            Err(Unordered::Short) => unreachable!(),
+        }
     }
 
     // Checks a project: 21 an import that is no unit, 22 a circle; else its link order is held.
@@ -166,22 +141,10 @@ impl Links {
         ensures number { answer result ≡ verdict_number (checked (members project.now)) }
         ensures says { shown result (order_of self.new) ≡ checked (members project.now) }
     {
-        if let Some(i) = self.lacking(project) {
-            let unit = project.name_at(i);
-            return Err(Refusal::ImportMissing {
-                unit,
-                position: project.lack_position(i),
-            });
+        if let Some((unit, position)) = self.lacking(project) {
+            return Err(Refusal::ImportMissing { unit, position });
         }
-        match self.arrange(project) {
-            Ok(()) => {
-                self.count = project.count;
-                Ok(())
-            }
-            Err(Unordered::Stuck(i)) => Err(Refusal::ImportCircle {
-                unit: project.name_at(i),
-            }),
-            Err(Unordered::Short) => unreachable(),
-        }
+        self.arrange(project)
+            .map_err(|unit| Refusal::ImportCircle { unit })
     }
 }

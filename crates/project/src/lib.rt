@@ -6,7 +6,6 @@
 pub mod check;
 pub mod links;
 pub mod methods;
-pub mod table;
 pub mod unit;
 pub mod whole;
 

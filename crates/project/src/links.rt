@@ -1,5 +1,3 @@
-ghost use Rattle.std.specs.Prelude.{◌≡◌, ◌≤◌, length};
-
 use bounded::Bounded;
 use names::Name;
 use order::Need;
@@ -10,8 +8,5 @@ pub struct Links {
     pub(crate) names: Bounded<Name, 24>,
     pub(crate) needs: Bounded<Need<Name>, 96>,
     pub(crate) whole: Bounded<usize, 24>,
-    pub(crate) places: [usize; 24],
-    pub(crate) count: usize,
-    ghost wide: { length places ≡ 24 },
-    ghost few: { count ≤ 24 },
+    pub(crate) places: Bounded<usize, 24>,
 }

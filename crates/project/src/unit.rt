@@ -1,9 +1,10 @@
 // A unit: its name, 0 to 4 names that it imports, and a source of at most 512 bytes.
-ghost use Rattle.std.specs.Prelude.{◌≡◌, ◌≤◌, length};
+ghost use Rattle.std.specs.Prelude.{◌≡◌, [], ◌∷◌, length, IfOk, OnOk, if◌then◌else◌, nat_lt};
+ghost use Rattle.names.specs.Refusals.{answer};
 ghost use Rattle.project.specs.Members.{member};
 
 use bounded::Bounded;
-use names::Name;
+use names::{Name, Refusal};
 use std::alloc::{AllocError, Global};
 
 #[derive(Drop)]
@@ -14,8 +15,12 @@ pub struct Unit {
 }
 
 impl Unit {
-    // Memory for a unit.
-    pub(crate) fn open(heap: Global) -> Result<Unit, AllocError> {
+    // Memory for a unit: with the smallest name, no imports and an empty source.
+    pub(crate) fn open(heap: Global) -> Result<Unit, AllocError>
+        ensures name { IfOk result (λ u. (member u).name.bytes ≡ 97 ∷ 0 ∷ 0 ∷ 0 ∷ 0 ∷ 0 ∷ 0 ∷ 0 ∷ []) }
+        ensures imports { IfOk result (λ u. (member u).imports ≡ []) }
+        ensures source { IfOk result (λ u. (member u).source ≡ []) }
+    {
         let imports = Bounded::open(heap)?;
         let source = Bounded::open(heap)?;
         Ok(Unit {
@@ -25,15 +30,25 @@ impl Unit {
         })
     }
 
-    pub(crate) fn fill(&mut self, name: Name, imports: &[Name], source: &[u8])
-        requires { (length imports.now ≤ 4) × (length source.now ≤ 512) }
-        ensures { member self.new ≡ record { name = name; imports = imports.now; source = source.now } }
+    // The unit becomes one of this name, with these imports and this source, unless the source is too long (12) or there are too many imports (13).
+    pub(crate) fn fill(
+        &mut self,
+        name: Name,
+        imports: &[Name],
+        source: &[u8],
+    ) -> Result<(), Refusal>
+        ensures answers { answer result ≡ (if nat_lt 512 (length source.now) then 12 else (if nat_lt 4 (length imports.now) then 13 else 0)) }
+        ensures filled { OnOk result (member self.new ≡ record { name = name; imports = imports.now; source = source.now }) }
     {
         self.name = name;
         self.imports.clear();
-        let _ = self.imports.extend(imports);
         self.source.clear();
-        let _ = self.source.extend(source);
+        self.source
+            .extend(source)
+            .map_err(|_| Refusal::SourceTooLong)?;
+        self.imports
+            .extend(imports)
+            .map_err(|_| Refusal::TooManyImports)
     }
 
     // Its name.

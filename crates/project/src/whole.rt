@@ -1,13 +1,9 @@
-ghost use Rattle.std.specs.Prelude.{◌≡◌, ◌≤◌, vec_len, vec_capacity};
+use crate::unit::Unit;
+use bounded::Pool;
 
-use crate::table::Table;
-
-// A project: the first `count` of its rows are units.
+// A project: its units, and one more to fill before it takes its place among them.
 #[derive(Drop)]
 pub struct Project {
-    pub(crate) table: Table,
-    pub(crate) count: usize,
-    ghost full: { vec_len table.rows ≡ 24 },
-    ghost room: { 24 ≤ vec_capacity table.rows },
-    ghost few: { count ≤ 24 },
+    pub(crate) units: Pool<Unit, 24>,
+    pub(crate) next: Unit,
 }

@@ -4,17 +4,11 @@ use std::fmt::Write;
 use std::test::*;
 
 fn named(text: &[u8]) -> Result<Name, Fail> {
-    match Name::from_text(text) {
-        Ok(name) => Ok(name),
-        Err(_) => Err(Fail::new("no name")),
-    }
+    Name::from_text(text).map_err(|_| Fail::new("no name"))
 }
 
 fn refused(text: &[u8]) -> bool {
-    match Name::from_text(text) {
-        Ok(_) => false,
-        Err(refusal) => refusal.number() == 11,
-    }
+    Name::from_text(text).is_err_and(|refusal| refusal.number() == 11)
 }
 
 // Puts a unit that a line names: its name, then its imports. Answers the refusal's number, or 0.
@@ -26,13 +20,9 @@ fn put(rt: &HostRuntime, project: &mut Project, line: &str, source: &[u8]) -> Re
         };
         imports.push(named(word)?)?;
     }
-    let Some(word) = words::word(line.as_bytes(), 0) else {
-        return Err(Fail::new("no unit"));
-    };
-    match project.put(named(word)?, imports.as_slice(), source) {
-        Ok(_) => Ok(0),
-        Err(refusal) => Ok(refusal.number()),
-    }
+    let word = words::word(line.as_bytes(), 0).ok_or("no unit")?;
+    let put = project.put(named(word)?, imports.as_slice(), source);
+    Ok(put.err().map_or(0, |refusal| refusal.number()))
 }
 
 // The link order of a project, one unit a line, in words.

@@ -1,28 +1,13 @@
-use Rattle.std.proofs.Common.{◌≡◌, false, get_or, sym, ap, ◌∙◌, arith, below_more}
-use Rattle.order.proofs.Least.{first_is, first_none}
-use Rattle.project.specs.Members.{Member, member, members, same}
-use Rattle.project.proofs.Rows.{row_at, members-length}
+use Rattle.std.proofs.Common.{sym, ◌∙◌, rules}
+use borrow.Author.Tests.{tests}
+use Rattle.std.proofs.lemmas.Iterator.{YieldsList-from_slice}
+use Rattle.std.proofs.lemmas.Iterator.Search.{position_from_yields_List}
+use Rattle.bounded.specs.Held.{used}
+use Rattle.project.specs.Members.{Member, member, same}
+use Rattle.project.proofs.Places.{position-map}
 use Rattle.project.proofs.whole.Project.find.Goals as goal
-
-pub returns-then-eq : goal.returns-then-eq
-returns-then-eq c =
-    let p = c.args.self.now in
-    let i = c.loop-i.i in
-    let u = c.index.result.now in
-    let l = members-length p in
-    sym (first_is (λ _ v. same v.name c.args.name) (members p) i (member u) (omega arith)
-    (ap (λ v. same v.name c.args.name) (row_at p i u (member u) c.loop-i-test.true c.index.ensures) ∙ sym c.eq.ensures ∙ c.if-eq.true)
-    (λ k h. c.loop-i.invariant k h (member u)))
-
-pub loop-i-preserved : goal.loop-i-preserved
-loop-i-preserved c =
-    let p = c.args.self.now in
-    let u = c.index.result.now in
-    below_more (λ k. (d : Member) → same (get_or (members p) k d).name c.args.name ≡ false) c.loop-i.i c.loop-i.invariant
-    (λ d. ap (λ v. same v.name c.args.name) (row_at p c.loop-i.i u d c.loop-i-test.true c.index.ensures) ∙ sym c.eq.ensures ∙ c.if-eq.false)
 
 pub returns : goal.returns
 returns c =
-    let p = c.args.self.now in
-    let l = members-length p in
-    sym (first_none (λ _ v. same v.name c.args.name) (members p) (λ k d h. c.loop-i.invariant k (omega arith) d))
+    position_from_yields_List (λ u. same (member u).name c.args.name) _ _ _ c.position.ensures.ran (YieldsList-from_slice (used c.args.self.now.units) cc) (λ x b q k. search (rules, tests))
+    ∙ sym (position-map (λ (v : Member). same v.name c.args.name) member (used c.args.self.now.units))

@@ -1,36 +1,21 @@
-use Rattle.std.proofs.Common.{cond, map, take, is_ok, vec_items, sym, ap, ◌∙◌, arith}
+use Rattle.std.proofs.Common.{map, set, is_ok, sym, ap, ◌∙◌}
+use Rattle.std.proofs.lemmas.List.{map-set}
+use Rattle.bounded.specs.Held.{used}
 use Rattle.project.specs.Members.{Member, member, members}
-use Rattle.project.proofs.Rows.{members-length, with_at, with_none, take_of_set, put-new, put_old}
+use Rattle.project.proofs.Rows.{with_at, added}
 use Rattle.project.proofs.whole.Project.put.Goals as goal
 
-pub returns-in_default : goal.returns-in_default
-returns-in_default c =
+pub returns-in-Some-clause-after : goal.returns-in-Some-clause-after
+returns-in-Some-clause-after c =
     let u : Member = record { name = c.args.name; imports = c.args.imports.now; source = c.args.source.now } in
     let vs = members c.args.self.now in
-    let none = sym c.in_default.ensures in
-    record {
-      answers = c.add.ensures.answers ∙ sym (put-new u vs (omega arith) (omega arith) none);
-      after = c.add.ensures.after ∙ ap (λ ws. cond (is_ok c.add.result) ws vs) (sym (with_none u vs none));
-    }
+    ap (map member) c.replace.ensures.after
+    ∙ map-set member (used c.args.self.now.units) c.in-Some.i c.fill.new.self
+    ∙ ap (set vs c.in-Some.i) c.in_ok-fill.ensures.filled
+    ∙ sym (with_at u vs c.in-Some.i (sym c.in-Some.ensures)).1
 
-pub fill_row-requires : goal.fill_row-requires
-fill_row-requires c =
-    let p = c.args.self.now in
+pub returns-in-None-clause-after : goal.returns-in-None-clause-after
+returns-in-None-clause-after c =
     let u : Member = record { name = c.args.name; imports = c.args.imports.now; source = c.args.source.now } in
-    let below = (with_at u (members p) c.in-Some.i (sym c.in-Some.ensures)).0 in
-    let n = members-length p in
-    let few = p.few in
-    (omega arith, (omega arith, omega arith))
-
-pub returns : goal.returns
-returns c =
-    let u : Member = record { name = c.args.name; imports = c.args.imports.now; source = c.args.source.now } in
-    let p = c.args.self.now in
-    let is = sym c.in-Some.ensures in
-    record {
-      answers = sym (put_old u (members p) (omega arith) (omega arith) c.in-Some.i is);
-      after =
-          (λ j. take (c.fill_row.ensures.count j) (c.fill_row.ensures.rows j))
-          ∙ take_of_set p.count (map member (vec_items p.table.rows)) c.in-Some.i u
-          ∙ sym (with_at u (members p) c.in-Some.i is).1;
-    }
+    let us = used c.args.self.now.units in
+    added us (used c.add.new.self) c.fill.new.self u (is_ok c.add.result) (is_ok c.map_err.result) c.in_ok-fill.ensures.filled c.add.ensures.after c.map_err.ensures.variant (sym c.in-None.ensures)

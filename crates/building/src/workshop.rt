@@ -1,0 +1,21 @@
+use crate::desk::Desk;
+use crate::mark::Mark;
+use crate::stop::Stop;
+use crate::table::Done;
+use bounded::Bounded;
+use names::Name;
+
+// What a build goes through: a desk for the unit at hand, the units that have their product, and what became of each.
+#[derive(Drop)]
+pub struct Workshop {
+    pub(crate) desk: Desk,
+    pub(crate) done: Done,
+    pub(crate) marks: Bounded<Mark, 24>,
+}
+
+// Where a build ended, and why.
+#[derive(Clone, Copy)]
+pub struct Halt {
+    pub unit: Name,
+    pub stop: Stop,
+}
