@@ -1,9 +1,7 @@
 -- A loop that reads so many elements, one a turn: what it has, put before what the rest gives, is what all give.
-use Rattle.std.proofs.Common.{◌≡◌, ℕ, suc, ◌+◌, ◌-◌, ◌<◌, ◌≤◌, Bool, cond, List, [], ◌∷◌, ◌++◌, map, Some, None, Option, Ok, Err, Result, IsErr, is_ok, sym, refl, ap, ◌∙◌, append_assoc, append-nil, arith, length, length-append}
-use native.Mathlib.Nat.{sub-zero}
+use Rattle.std.proofs.Common.{◌≡◌, ℕ, suc, ◌+◌, ◌-◌, ◌<◌, Bool, List, [], ◌∷◌, ◌++◌, map, Some, None, Option, Ok, Err, Result, is_ok, refl, ap, ◌∙◌, append_assoc, arith, length, length-append}
 use Rattle.std.proofs.lemmas.List.{map_push}
-use Rattle.std.proofs.lemmas.Bool.{le-leb, lt-leb, true≢false}
-use Rattle.codec.specs.Format.{next, passing, many, many_within, filled}
+use Rattle.codec.specs.Format.{next, passing, many, filled}
 
 -- elements before those that were read
 abbrev pub onto : {X : Type 0} → List X → Option (List X × List ℕ) → Option (List X × List ℕ)
@@ -15,22 +13,9 @@ module _ {X : Type 0} where
   pub one_more : (xs ys : List X) (x : X) (i : ℕ) → ys ≡ xs ++ x ∷ [] → length xs ≡ i → length ys ≡ i + 1
   one_more xs ys x i e h = ap length e ∙ length-append xs (x ∷ []) ∙ ap (λ n. n + 1) h
 
-  pub onto_none : (o : Option (List X × List ℕ)) → onto [] o ≡ o
-  onto_none None = refl
-  onto_none (Some p) = refl
-
   pub onto-one : (acc : List X) (x : X) (o : Option (List X × List ℕ)) → onto (acc ++ x ∷ []) o ≡ onto acc (next o (λ xs ds. Some (x ∷ xs, ds)))
   onto-one acc x None = refl
   onto-one acc x (Some p) = ap (λ zs. Some (zs, p.1)) (append_assoc acc (x ∷ []) p.0)
-
-  within_yes : (N n : ℕ) (get : List ℕ → Option (X × List ℕ)) (bs : List ℕ) → n ≤ N → many n get bs ≡ many_within N n get bs
-  within_yes N n get bs h = ap (λ t. cond t (many n get bs) None) (sym (le-leb n N h))
-
-  pub within_no : (N n : ℕ) (get : List ℕ → Option (X × List ℕ)) (bs : List ℕ) → N < n → None ≡ many_within N n get bs
-  within_no N n get bs h = ap (λ t. cond t (many n get bs) None) (sym (lt-leb n N h))
-
-  pub many_starts : (N n : ℕ) (get : List ℕ → Option (X × List ℕ)) (bs : List ℕ) (acc : List X) → acc ≡ [] → n ≤ N → onto acc (many (n - 0) get bs) ≡ many_within N n get bs
-  many_starts N n get bs acc e h = ap (λ xs. onto xs (many (n - 0) get bs)) e ∙ ap (λ k. onto [] (many k get bs)) (sub-zero n) ∙ onto_none (many n get bs) ∙ within_yes N n get bs h
 
   -- the turn at place i of n, where R is what all give
   module _ (n i : ℕ) (get : List ℕ → Option (X × List ℕ)) (bs : List ℕ) (acc : List X) (R : Option (List X × List ℕ)) (h : i < n)
@@ -43,9 +28,6 @@ module _ {X : Type 0} where
         onto-one acc x (many (n - (i + 1)) get cs)
         ∙ ap (λ o. onto acc (next o (λ y ds. next (many (n - (i + 1)) get ds) (λ xs es. Some (y ∷ xs, es))))) e ∙ turn
 
-    pub many_stops : None ≡ get bs → None ≡ R
-    many_stops e = ap (λ o. onto acc (next o (λ y ds. next (many (n - (i + 1)) get ds) (λ xs es. Some (y ∷ xs, es))))) e ∙ turn
-
   -- the same, where what the turn adds is seen by f
   pub many_adds : {B : Type 0} (f : B → X) (n i : ℕ) (get : List ℕ → Option (X × List ℕ)) (bs : List ℕ) (us now : List B) (R : Option (List X × List ℕ)) (b : B) (cs : List ℕ) →
       i < n → onto (map f us) (many (n - i) get bs) ≡ R → now ≡ us ++ b ∷ [] → Some (f b, cs) ≡ get bs → onto (map f now) (many (n - (i + 1)) get cs) ≡ R
@@ -54,18 +36,7 @@ module _ {X : Type 0} where
       ∙ ap (λ xs. onto xs (many (n - (i + 1)) get cs)) (map_push f us b)
       ∙ many_goes n i get bs (map f us) R h inv (f b) cs read
 
-  pub many-ends : (n i : ℕ) (get : List ℕ → Option (X × List ℕ)) (bs : List ℕ) (acc : List X) (R : Option (List X × List ℕ)) → n ≤ i →
-      onto acc (many (n - i) get bs) ≡ R → Some (acc, bs) ≡ R
-  many-ends n i get bs acc R h inv =
-      let e : n - i ≡ 0 = omega arith in
-      sym (ap (λ k. onto acc (many k get bs)) e ∙ ap (λ zs. Some (zs, bs)) (append-nil acc)) ∙ inv
-
 -- a test of what was read
 pub tested_as : {X Y : Type 0} (t : X → Bool) (o : Option (X × List ℕ)) (x : X) (bs : List ℕ) (r : Result (Unit {0}) Y) → Some (x, bs) ≡ o → is_ok r ≡ t x → filled r x bs ≡ next o (λ y cs. passing (t y) y cs)
 tested_as t o x bs (Ok u) read e = ap (λ b. passing b x bs) e ∙ ap (λ p. next p (λ y cs. passing (t y) y cs)) read
 tested_as t o x bs (Err y) read e = ap (λ b. passing b x bs) e ∙ ap (λ p. next p (λ y cs. passing (t y) y cs)) read
-
--- a reader that refused, whatever it holds
-pub refused : {X Y : Type 0} (r : Result (Unit {0}) Y) (x : X) (bs : List ℕ) (R : Option (X × List ℕ)) → IsErr r → None ≡ R → filled r x bs ≡ R
-refused (Ok u) x bs R h e = absurd (true≢false (sym h))
-refused (Err y) x bs R h e = e

@@ -1,6 +1,5 @@
 -- A loop that reads the rows of one unit, one a turn.
-use Rattle.std.proofs.Common.{◌≡◌, ℕ, zero, suc, ◌-◌, ◌<◌, ◌≤◌, true, false, cond, List, [], ◌∷◌, ◌++◌, length, drop, Some, None, Option, sym, refl, ap, ◌∙◌, append_assoc, append-nil, arith}
-use native.Mathlib.Nat.{sub-zero}
+use Rattle.std.proofs.Common.{◌≡◌, ℕ, zero, suc, ◌-◌, ◌<◌, true, false, cond, List, [], ◌∷◌, ◌++◌, length, drop, Some, None, Option, sym, refl, ap, ◌∙◌, append_assoc, append-nil, arith}
 use Rattle.std.proofs.lemmas.List.{length_push}
 use Rattle.std.proofs.lemmas.Bool.{true≢false}
 use Rattle.codec.specs.Format.{next, begins}
@@ -12,10 +11,6 @@ onto_run acc None = None
 onto_run acc (Some p) = Some ((acc ++ p.0.0, p.0.1), p.1)
 
 module _ {X : Type 0} (get : List ℕ → Option (X × List ℕ)) (unit : ℕ) where
-  onto_none : (o : Option ((List X × ℕ) × List ℕ)) → onto_run [] o ≡ o
-  onto_none None = refl
-  onto_none (Some p) = refl
-
   onto-one : (acc : List X) (x : X) (o : Option ((List X × ℕ) × List ℕ)) → onto_run (acc ++ x ∷ []) o ≡ onto_run acc (next o (λ p ds. Some ((x ∷ p.0, p.1), ds)))
   onto-one acc x None = refl
   onto-one acc x (Some p) = ap (λ zs. Some ((zs, p.0.1), p.1)) (append_assoc acc (x ∷ []) p.0.0)
@@ -28,18 +23,11 @@ module _ {X : Type 0} (get : List ℕ → Option (X × List ℕ)) (unit : ℕ) w
   run_row room rows [] h = absurd (true≢false (sym h))
   run_row room rows (b ∷ bs) h = ap (λ t. cond t (next (get bs) (more room rows)) (Some (([], suc rows), b ∷ bs))) h
 
-  run_full : (rows : ℕ) (bs : List ℕ) → begins unit bs ≡ true → run get unit 0 (suc rows) bs ≡ None
-  run_full rows [] h = absurd (true≢false (sym h))
-  run_full rows (b ∷ bs) h = ap (λ t. cond t None (Some (([], suc rows), b ∷ bs))) h
-
   pub run_other : (room rows : ℕ) (bs : List ℕ) → begins unit bs ≡ false → run get unit room rows bs ≡ Some (([], rows), bs)
   run_other room zero bs h = refl
   run_other room (suc rows) [] h = refl
   run_other zero (suc rows) (b ∷ bs) h = ap (λ t. cond t None (Some (([], suc rows), b ∷ bs))) h
   run_other (suc room) (suc rows) (b ∷ bs) h = ap (λ t. cond t (next (get bs) (more room rows)) (Some (([], suc rows), b ∷ bs))) h
-
-  pub run_starts : (N n : ℕ) (bs : List ℕ) (acc : List X) → acc ≡ [] → onto_run acc (run get unit (N - length acc) n bs) ≡ run get unit N n bs
-  run_starts N n bs acc e = ap (λ xs. onto_run xs (run get unit (N - length xs) n bs)) e ∙ ap (λ k. onto_run [] (run get unit k n bs)) (sub-zero N) ∙ onto_none (run get unit N n bs)
 
   -- the turn with n rows to come, where R is what all give
   module _ (N n : ℕ) (bs cs : List ℕ) (acc : List X) (R : Option ((List X × ℕ) × List ℕ)) (h : 0 < n) (first : begins unit bs ≡ true) (rest : cs ≡ drop 1 bs)
@@ -56,26 +44,6 @@ module _ {X : Type 0} (get : List ℕ → Option (X × List ℕ)) (unit : ℕ) w
         ∙ ap (λ o. onto_run acc (next o (more (N - suc (length acc)) (n - 1)))) (read ∙ ap get rest)
         ∙ ap (onto_run acc) (sym (run_row (N - suc (length acc)) (n - 1) bs first))
         ∙ sym (λ i. onto_run acc (run get unit (split i) (rows i) bs)) ∙ inv
-
-    by_room : (room rows : ℕ) → None ≡ get cs → run get unit room (suc rows) bs ≡ None
-    by_room zero rows e = run_full rows bs first
-    by_room (suc room) rows e = run_row room rows bs first ∙ ap (λ o. next o (more room rows)) (sym (e ∙ ap get rest))
-
-    pub run_fails : None ≡ get cs → None ≡ R
-    run_fails e =
-        let rows : n ≡ suc (n - 1) = omega arith in
-        sym (ap (λ k. onto_run acc (run get unit (N - length acc) k bs)) rows ∙ ap (onto_run acc) (by_room (N - length acc) (n - 1) e)) ∙ inv
-
-    pub run_passes : N ≤ length acc → None ≡ R
-    run_passes e =
-        let rows : n ≡ suc (n - 1) = omega arith in
-        let none : N - length acc ≡ 0 = omega arith in
-        sym ((λ i. onto_run acc (run get unit (none i) (rows i) bs)) ∙ ap (onto_run acc) (run_full (n - 1) bs first)) ∙ inv
-
-  pub run_ends : (N n : ℕ) (bs : List ℕ) (acc : List X) (R : Option ((List X × ℕ) × List ℕ)) → n ≤ 0 → onto_run acc (run get unit (N - length acc) n bs) ≡ R → Some ((acc, n), bs) ≡ R
-  run_ends N n bs acc R h inv =
-      let none : n ≡ 0 = omega arith in
-      sym (ap (λ k. onto_run acc (run get unit (N - length acc) k bs)) none ∙ (λ i. Some ((append-nil acc i, sym none i), bs))) ∙ inv
 
   pub run_stops : (N n : ℕ) (bs cs : List ℕ) (acc : List X) (R : Option ((List X × ℕ) × List ℕ)) → begins unit bs ≡ false → cs ≡ bs → onto_run acc (run get unit (N - length acc) n bs) ≡ R → Some ((acc, n), cs) ≡ R
   run_stops N n bs cs acc R h same inv =
