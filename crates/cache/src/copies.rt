@@ -12,6 +12,8 @@ pub struct Copied {
 }
 
 // The copies, the latest first, and the memory of the places that are free; four places in all, reserved.
+// Kept beside `bounded::Pool`, whose elements come in at the end and hand no memory on: here one comes to the front, and the oldest
+// gives its memory.
 #[derive(Drop)]
 pub struct Copies {
     pub(crate) latest: Vec<Copied>,

@@ -1,5 +1,5 @@
 // The cache keeps the contract of every store, with the pairs, the rows and the limit of the store below, and says which records it holds.
-ghost use Rattle.std.specs.Prelude.{◌≡◌, ℕ, Bool, true, List, length};
+ghost use Rattle.std.specs.Prelude.{◌≡◌, length};
 ghost use Rattle.names.specs.Refusals.{answer};
 ghost use Rattle.store.specs.Pairs.{lookup, without};
 ghost use Rattle.store.specs.Says.{PutSays, GetSays, DropSays, Within};

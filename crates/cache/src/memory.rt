@@ -1,11 +1,11 @@
 // Looking for a copy, taking one in and letting one go.
-ghost use Rattle.std.specs.Prelude.{◌≡◌, ℕ, ◌+◌, ◌<◌, ◌≤◌, true, false, [], length, take, IfOk, Some, vec_len, vec_capacity, MatchOption, OnErr};
+ghost use Rattle.std.specs.Prelude.{◌≡◌, ◌+◌, ◌<◌, false, [], length, take, IfOk, Some, vec_len, vec_capacity, MatchOption};
 ghost use Rattle.std.specs.Option.{option_map};
 ghost use Rattle.names.specs.Refusals.{answer};
-ghost use Rattle.store.specs.Pairs.{pair, has, lookup, without};
+ghost use Rattle.store.specs.Pairs.{has, lookup, without};
 ghost use Rattle.store.specs.Says.{get_number, get_buffer};
 ghost use Rattle.cache.specs.Recent.{admitted, to_front, after_get, PlaceOf};
-ghost use Rattle.cache.specs.Kept.{kept, copy_of};
+ghost use Rattle.cache.specs.Kept.{kept};
 
 use crate::copies::{Copied, Copies};
 use area::layout::LONGEST;

@@ -1,6 +1,5 @@
 // The cache over any store.
-ghost use Rattle.std.specs.Prelude.{◌≡◌, ℕ, List, [], length, IfOk};
-ghost use Rattle.names.specs.Refusals.{answer};
+ghost use Rattle.std.specs.Prelude.{◌≡◌, [], length, IfOk};
 ghost use Rattle.store.specs.Pairs.{lookup};
 ghost use Rattle.store.specs.Says.{GetSays, Within};
 ghost use Rattle.cache.specs.Recent.{after_get, TrueCopies};

@@ -1,5 +1,5 @@
 -- Formats that read back to exactly what was written, and write again exactly what was read.
-use Rattle.std.proofs.Common.{◌≡◌, ℕ, zero, suc, ◌+◌, ◌*◌, ◌/◌, ◌%◌, ◌^◌, ◌<◌, ◌≤◌, Bool, true, false, cond, eqb, ltb, leb, List, [], ◌∷◌, ◌++◌, length, take, drop, ℤ, Some, None, Option, Ok, Err, Result, OnOk, sym, refl, ap, ◌∙◌, subst, append_assoc, append-nil, arith, take-append-drop, w32, SFits, to_z, of_z}
+use Rattle.std.proofs.Common.{◌≡◌, ℕ, zero, suc, ◌+◌, ◌*◌, ◌/◌, ◌%◌, ◌^◌, ◌<◌, ◌≤◌, Bool, true, false, cond, eqb, ltb, leb, List, [], ◌∷◌, ◌++◌, length, take, drop, ℤ, Some, None, Option, sym, refl, ap, ◌∙◌, subst, append_assoc, append-nil, arith, take-append-drop, w32, SFits, to_z, of_z}
 use mir.Facts.{sfits_to_z, Fits-of_z}
 use Rattle.std.specs.List.{AllByRecursion}
 use Rattle.std.proofs.lemmas.Bool.{lt-ltb, ltb-true, le-leb, leb-true, eqb-true}
@@ -11,7 +11,7 @@ use Rattle.names.proofs.Spelled.{padded_eight}
 use Rattle.product.specs.Parts.{SoundRow}
 use Rattle.product.specs.declared.row.Row.{Row}
 use Rattle.product.specs.declared.row.Reference.{Reference}
-use Rattle.codec.specs.Format.{Format, next, passing, get_byte, byte, pair, value, name_of, name, row, reference, many, many_within, each, listed, tested, whole, got}
+use Rattle.codec.specs.Format.{Format, next, passing, get_byte, byte, pair, value, name_of, name, row, reference, many, many_within, each, listed, tested, whole}
 use Rattle.codec.proofs.Named.{name_of_yes}
 
 -- a format of the values that P holds of
@@ -295,9 +295,3 @@ module _ {X : Type 0} (f : Format X) (P : X → Type 0) (law : Lawful f P) where
   -- one writing of each value
   pub one_writing : (x y : X) → P x → P y → f.put x ≡ f.put y → x ≡ y
   one_writing x y h k e = let s : Some x ≡ Some y = sym (whole_back x h) ∙ ap (λ bs. whole (f.get bs)) e ∙ whole_back y k in cc
-
--- what a reader of whole files answers, where what is read writes back to the bytes and keeps the limits
-pub backed : {X Y : Type 0} (read : List ℕ → Option X) (put : X → List ℕ) (P : X → Type 0) → ((bs : List ℕ) (x : X) → read bs ≡ Some x → put x ≡ bs) → ((bs : List ℕ) (x : X) → read bs ≡ Some x → P x) →
-    (r : Result (Unit {0}) Y) (x : X) (bs : List ℕ) → got r x ≡ read bs → OnOk r ((put x ≡ bs) × P x)
-backed read put P back within (Ok u) x bs e = (back bs x (sym e), within bs x (sym e))
-backed read put P back within (Err y) x bs e = tt

@@ -2,8 +2,8 @@
 // A product has at most 384 code bytes and 32 references: what would pass them is not written.
 #![tactic(auto)]
 
-mod emit;
+pub mod emit;
 pub mod unit;
 mod write;
 
-pub use unit::{emit_functions, show_rows};
+pub use emit::Emitting;

@@ -1,41 +1,39 @@
 // What is written behind a product, if there is room.
-ghost use Rattle.std.specs.Prelude.{◌≡◌};
+ghost use Rattle.std.specs.Prelude.{◌≡◌, is_ok};
 ghost use Rattle.product.specs.Parts.{parts};
 ghost use Rattle.emission.specs.Wrote.{done, adding, referring, entering, showing_row, opcode, pushing, calling};
 
+use bounded::Full;
 use product::{Product, Reference, Row};
 use tokens::Operator;
 
-pub fn add(bytes: &[u8], out: &mut Product) -> bool
-    ensures { done result (parts out.new) ≡ adding bytes.now (parts out.old) }
+pub fn add(bytes: &[u8], out: &mut Product) -> Result<(), Full>
+    ensures { done (is_ok result) (parts out.new) ≡ adding bytes.now (parts out.old) }
 {
-    out.code.extend(bytes).is_ok()
+    out.code.extend(bytes)
 }
 
-pub fn refer(reference: Reference, out: &mut Product) -> bool
-    ensures { done result (parts out.new) ≡ referring reference (parts out.old) }
+pub fn refer(reference: Reference, out: &mut Product) -> Result<(), Full>
+    ensures { done (is_ok result) (parts out.new) ≡ referring reference (parts out.old) }
 {
-    out.references.push(reference).is_ok()
+    out.references.push(reference)
 }
 
-pub fn enter(out: &mut Product) -> bool
-    ensures { done result (parts out.new) ≡ entering (parts out.old) }
+pub fn enter(out: &mut Product) -> Result<(), Full>
+    ensures { done (is_ok result) (parts out.new) ≡ entering (parts out.old) }
 {
     let place = out.code.len() as u16;
-    out.entries.push(place).is_ok()
+    out.entries.push(place)
 }
 
-pub fn show(row: Row, out: &mut Product) -> bool
-    ensures { done result (parts out.new) ≡ showing_row row (parts out.old) }
+pub fn show(row: Row, out: &mut Product) -> Result<(), Full>
+    ensures { done (is_ok result) (parts out.new) ≡ showing_row row (parts out.old) }
 {
-    match out.interface.push(row) {
-        Ok(_) => true,
-        Err(_) => false,
-    }
+    out.interface.push(row).map_err(|_| Full)
 }
 
-pub fn push(value: i32, out: &mut Product) -> bool
-    ensures { done result (parts out.new) ≡ pushing value (parts out.old) }
+pub fn push(value: i32, out: &mut Product) -> Result<(), Full>
+    ensures { done (is_ok result) (parts out.new) ≡ pushing value (parts out.old) }
 {
     let [a, b, c, d] = value.to_be_bytes();
     add(&[1, a, b, c, d], out)
@@ -54,12 +52,10 @@ pub fn opcode_of(operator: Operator) -> u8
     }
 }
 
-pub fn call(reference: Reference, out: &mut Product) -> bool
-    ensures { done result (parts out.new) ≡ calling reference (parts out.old) }
+pub fn call(reference: Reference, out: &mut Product) -> Result<(), Full>
+    ensures { done (is_ok result) (parts out.new) ≡ calling reference (parts out.old) }
 {
     let number = out.references.len() as u8;
-    if !add(&[0x30, number], out) {
-        return false;
-    }
+    add(&[0x30, number], out)?;
     refer(reference, out)
 }

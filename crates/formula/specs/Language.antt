@@ -6,7 +6,7 @@ use Rattle.product.specs.Parts.{Parts, Outcome, made, faulted, no_parts}
 use Rattle.translator.specs.Owed.{admitted}
 use Rattle.tokens.specs.declared.token.Token.{Token}
 use Rattle.tokens.specs.Stream.{stream}
-use Rattle.grammar.specs.declared.verdict.Declaration.{Declaration}
+use Rattle.grammar.specs.declared.declaration.Declaration.{Declaration}
 use Rattle.grammar.specs.Walk.{declarations}
 use Rattle.scope.specs.Names.{misnamed}
 use Rattle.scope.specs.Uses.{Outside, outside, misused}

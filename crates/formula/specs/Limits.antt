@@ -1,13 +1,12 @@
 -- Products of formula sources keep the limits.
-use Rattle.std.specs.Prelude.{◌≡◌, ℕ, suc, ◌+◌, ◌-◌, ◌/◌, ◌%◌, ◌<◌, ◌≤◌, Bool, true, false, cond, ◌&&◌, List, [], ◌∷◌, ◌++◌, length, ℤ, pos, negsuc, Some, None, Ok, Err, Option, Result, FitsSigned, ◌==◌, nat_le, nat_lt, slice_index_or, slice_range, refl}
-use Rattle.std.proofs.Common.{sym, subst, mod-lt, arith, lit<, lit≤, of_z, to_z}
+use Rattle.std.specs.Prelude.{◌≡◌, ℕ, suc, ◌+◌, ◌-◌, ◌/◌, ◌%◌, ◌<◌, ◌≤◌, Bool, true, false, cond, ◌&&◌, List, [], ◌∷◌, ◌++◌, length, ℤ, pos, negsuc, Some, None, Ok, Err, Option, Result, FitsSigned, ◌==◌, nat_le, nat_lt, slice_index_or, slice_range, slice_get, refl}
+use Rattle.std.proofs.Common.{mod-lt, arith, lit<, lit≤, of_z}
 use Rattle.std.specs.Int.{w32}
-use Rattle.std.specs.Option.{unwrap_or}
-use Rattle.std.specs.List.{AllByRecursion}
+use Rattle.std.specs.Option.{option_map, unwrap_or}
+use Rattle.std.specs.List.{AllByRecursion, find}
 use Rattle.std.specs.Str.{bytes_eq}
 use Rattle.std.proofs.ByRecursion.{All-append, All-push, All-weaker}
 use Rattle.std.proofs.lemmas.List.{length-append}
-use Rattle.std.proofs.lemmas.Int.{to_z-of_z}
 use Rattle.std.proofs.lemmas.Bool.{leb-true, ltb-true, and_parts}
 use Rattle.names.specs.declared.name.Name.{Name}
 use Rattle.names.specs.declared.refusal.Fault.{Fault}
@@ -21,11 +20,11 @@ use Rattle.tokens.specs.declared.token.Operator.TheVariants.{Add, Subtract, Mult
 use Rattle.tokens.specs.declared.token.Token.{Token}
 use Rattle.tokens.specs.Stream.{stream}
 use Rattle.tokens.proofs.Turns.{stream_short}
-use Rattle.grammar.specs.declared.verdict.Verdict.{Verdict}
-use Rattle.grammar.specs.declared.verdict.Verdict.TheVariants.{Nothing, Wrong, Declares}
-use Rattle.grammar.specs.declared.verdict.Declaration.{Declaration}
+use Rattle.grammar.specs.declared.declaration.Declared.{Declared}
+use Rattle.grammar.specs.declared.declaration.Declaration.{Declaration}
+use Rattle.grammar.specs.declared.flaw.Flaw.{Flaw}
 use Rattle.grammar.specs.Expression.{expression}
-use Rattle.grammar.specs.Line.{said, x_word}
+use Rattle.grammar.specs.Line.{said, x_word, is_function}
 use Rattle.grammar.specs.Walk.{ends, noted, onward, walk, declarations, body}
 use Rattle.scope.specs.Names.{misnamed, entry_of}
 use Rattle.scope.specs.Uses.{as_function, Outside, outside, misused}
@@ -33,12 +32,11 @@ use Rattle.values.specs.declared.known.Known.{Known}
 use Rattle.values.specs.Arithmetic.{small}
 use Rattle.values.specs.Evaluation.{known, evaluating, result, learnt}
 use Rattle.values.specs.Needed.{constants, lines, needs}
-use Rattle.values.specs.Solved.{nth, behind, valued, settled, solved}
-use Rattle.emission.specs.Acting.{performed}
+use Rattle.values.specs.Solved.{behind, valued, settled, solved}
 use Rattle.emission.specs.Wrote.{done, then, adding, referring, entering, showing_row, four, opcode, pushing, calling}
-use Rattle.emission.specs.Emitted.{own_call, word_call, emitting, function_of, functions, row_of, rows_of}
+use Rattle.emission.specs.Emitted.{own_call, word_call, writing, emitting, function_of, functions, row_of, rows_of}
 use Rattle.formula.specs.Language.{formula, too_much, written, with_values, with_uses, with_names, with_lines}
-use Rattle.formula.specs.Performs.{Holds, GoesWell, then-holds, onward-holds, First, performed_so}
+use Rattle.formula.specs.Performs.{Holds, GoesWell, then-holds, onward-holds, OfState, Left, expression_so}
 use Rattle.std.specs.Ordering.{nat_cmp}
 
 -- within the limits, with entries up to the end of the code
@@ -213,25 +211,31 @@ module _ (imports : List (List Row)) (own : List Declaration) (ks : List Known) 
   by_name m p s true = adds n (2 ∷ []) p (lit< tt, tt) s
   by_name m p s false = by_word (known m.bytes ks) p s
 
-  expression_sound : (levels : ℕ) (p : Parts) (ts : List Token) → Sound n p → First (Sound n) (performed (emitting own ks o) levels p ts)
+  writes : (x : Option Parts) → Holds (Sound n) x → OfState (Sound n) (writing x)
+  writes None h = tt
+  writes (Some p) h = h
+
+  expression_sound : (levels : ℕ) (p : Parts) (ts : List Token) → Sound n p → Left (Sound n) (expression (emitting own ks o) levels p ts)
   expression_sound =
-      performed_so (emitting own ks o) (Sound n)
-      (λ v q t. pushes n v q t)
-      (λ m q t. by_name m q t (bytes_eq m.bytes x_word))
-      (λ i m q t. by_word (o.constant i m.bytes) q t)
-      (λ f q t. adds n (opcode f ∷ []) q (op_byte n f, tt) t)
-      (λ m q t. then-holds (SoundReference n) (Sound n) (own_call (entry_of m.bytes 0 own)) (λ r. calling r q) (own_sound n (entry_of m.bytes 0 own)) (λ r g. calls n r q g t))
-      (λ i m q t. then-holds (SoundReference n) (Sound n) (word_call i (o.function i m.bytes)) (λ r. calling r q) (by_row n i (first_row m.bytes (slice_index_or imports (i - 1) [])) (nat_lt 0 i && nat_le i n) refl) (λ r g. calls n r q g t))
+      expression_so (emitting own ks o) (Sound n)
+      (λ v q t. writes (pushing v q) (pushes n v q t))
+      (λ m q t. writes (cond (bytes_eq m.bytes x_word) (adding (2 ∷ []) q) (then (known m.bytes ks) (λ v. pushing v q))) (by_name m q t (bytes_eq m.bytes x_word)))
+      (λ i m q t. writes (then (o.constant i m.bytes) (λ v. pushing v q)) (by_word (o.constant i m.bytes) q t))
+      (λ f _ _ q t. writes (adding (opcode f ∷ []) q) (adds n (opcode f ∷ []) q (op_byte n f, tt) t))
+      (λ m _ q t. writes (then (own_call (entry_of m.bytes own)) (λ r. calling r q))
+      (then-holds (SoundReference n) (Sound n) (own_call (entry_of m.bytes own)) (λ r. calling r q) (own_sound n (entry_of m.bytes own)) (λ r g. calls n r q g t)))
+      (λ i m _ q t. writes (then (word_call i (o.function i m.bytes)) (λ r. calling r q))
+      (then-holds (SoundReference n) (Sound n) (word_call i (o.function i m.bytes)) (λ r. calling r q) (by_row n i (first_row m.bytes (slice_index_or imports (i - 1) [])) (nat_lt 0 i && nat_le i n) refl) (λ r g. calls n r q g t)))
 
   function_within : (all : List Token) (d : Declaration) (p : Parts) → Within n p → Holds (Within n) (function_of own ks o all d p)
   function_within all d p w =
-      then-holds (Sound n) (Within n) (entering p) (λ q. then (performed (emitting own ks o) 9 q (body all d)) (λ r. adding (63 ∷ []) r.0)) (enters n p (sound_within n p w))
-      (λ q s. then-holds (λ r. Sound n r.0) (Within n) (performed (emitting own ks o) 9 q (body all d)) (λ r. adding (63 ∷ []) r.0) (expression_sound 9 q (body all d) s) (λ r t. ending n r.0 t))
+      then-holds (Sound n) (Within n) (entering p) (λ q. then (expression (emitting own ks o) 9 q (body all d)) (λ r. adding (63 ∷ []) r.1)) (enters n p (sound_within n p w))
+      (λ q s. then-holds (λ r. Sound n r.1) (Within n) (expression (emitting own ks o) 9 q (body all d)) (λ r. adding (63 ∷ []) r.1) (expression_sound 9 q (body all d) s) (λ r t. ending n r.1 t))
 
   functions-within : (all : List Token) (ds : List Declaration) (p : Parts) → Within n p → Holds (Within n) (functions own ks o all p ds)
   functions-within all [] p w = w
   functions-within all (d ∷ ds) p w =
-      either_way (Holds (Within n)) d.function (then (function_of own ks o all d p) (λ q. functions own ks o all q ds)) (functions own ks o all p ds)
+      either_way (Holds (Within n)) (is_function d.kind) (then (function_of own ks o all d p) (λ q. functions own ks o all q ds)) (functions own ks o all p ds)
       (then-holds (Within n) (Within n) (function_of own ks o all d p) (λ q. functions own ks o all q ds) (function_within all d p w) (λ q v. functions-within all ds q v))
       (functions-within all ds p w)
 
@@ -253,8 +257,7 @@ zero_fits = record { sfits = lit< tt }
 known_fits : (name : List ℕ) (ks : List Known) → AllByRecursion Fit ks → FitsSigned w32 (unwrap_or (known name ks) (pos 0))
 known_fits name [] h = zero_fits
 known_fits name (k ∷ ks) h =
-    either_way (λ v. FitsSigned w32 (unwrap_or v (pos 0))) (bytes_eq k.name.bytes name) (Some (to_z w32 (of_z w32 k.value))) (known name ks)
-    (subst (FitsSigned w32) (sym (to_z-of_z w32 k.value h.0)) h.0) (known_fits name ks h.1)
+    either_way (λ v. FitsSigned w32 (unwrap_or (option_map (λ (x : Known). x.value) v) (pos 0))) (bytes_eq k.name.bytes name) (Some k) (find (λ x. bytes_eq x.name.bytes name) ks) h.0 (known_fits name ks h.1)
 
 module _ (n : ℕ) (ks : List Known) (fits : AllByRecursion Fit ks) where
   by_kind : (k : ℕ) (d : Declaration) → k < 1000 → Low d → (f : Bool)
@@ -269,35 +272,35 @@ module _ (n : ℕ) (ks : List Known) (fits : AllByRecursion Fit ks) where
   rows-within : (ds : List Declaration) (k : ℕ) (p : Parts) → k + length ds ≤ 100 → AllByRecursion Low ds → Within n p → Holds (Within n) (rows_of ks k p ds)
   rows-within [] k p h l w = w
   rows-within (d ∷ ds) k p h l w =
-      then-holds (Within n) (Within n) (showing_row (row_of ks k d) p) (λ q. rows_of ks (cond d.function (k + 1) k) q ds) (shows n (row_of ks k d) p (by_kind k d (omega arith) l.0 d.function) w)
-      (λ q v. rows-within ds (cond d.function (k + 1) k) q (more k d.function (length ds) h) l.1 v)
+      then-holds (Within n) (Within n) (showing_row (row_of ks k d) p) (λ q. rows_of ks (cond (is_function d.kind) (k + 1) k) q ds) (shows n (row_of ks k d) p (by_kind k d (omega arith) l.0 (is_function d.kind)) w)
+      (λ q v. rows-within ds (cond (is_function d.kind) (k + 1) k) q (more k (is_function d.kind) (length ds) h) l.1 v)
 
 -- what is learnt fits
 by_small : (ks : List Known) (d : Declaration) (z : ℤ) → AllByRecursion Fit ks → (t : Bool) → small z ≡ t → GoesWell (AllByRecursion Fit) (learnt ks d (cond t (Some z) None))
 by_small ks d z h true e = All-push Fit ks (record { name = d.name; value = z }) h (small_fits z e)
 by_small ks d z h false e = tt
 
-by_result : (ks : List Known) (d : Declaration) (x : Option (ℤ × List Token)) → AllByRecursion Fit ks → GoesWell (AllByRecursion Fit) (learnt ks d (result x))
+by_result : (ks : List Known) (d : Declaration) (x : Option (ℤ × Unit {0} × List Token)) → AllByRecursion Fit ks → GoesWell (AllByRecursion Fit) (learnt ks d (result x))
 by_result ks d None h = tt
 by_result ks d (Some p) h = by_small ks d p.0 h (small p.0) refl
 
 behind_fits : (all : List Token) (o : Outside) (ks : List Known) (d : Option Declaration) → AllByRecursion Fit ks → GoesWell (AllByRecursion Fit) (behind all o ks d)
 behind_fits all o ks None h = h
-behind_fits all o ks (Some d) h = by_result ks d (expression (evaluating ks o) 9 (body all d)) h
+behind_fits all o ks (Some d) h = by_result ks d (expression (evaluating ks o) 9 tt (body all d)) h
 
 valued_fits : (all : List Token) (o : Outside) (cs : List Declaration) (ps : List ℕ) (ks : List Known) → AllByRecursion Fit ks → GoesWell (AllByRecursion Fit) (valued all o cs ks ps)
 valued_fits all o cs [] ks h = h
-valued_fits all o cs (p ∷ ps) ks h = onward-holds (AllByRecursion Fit) (AllByRecursion Fit) (behind all o ks (nth cs p)) (λ m. valued all o cs m ps) (behind_fits all o ks (nth cs p) h) (λ m g. valued_fits all o cs ps m g)
+valued_fits all o cs (p ∷ ps) ks h = onward-holds (AllByRecursion Fit) (AllByRecursion Fit) (behind all o ks (slice_get cs p)) (λ m. valued all o cs m ps) (behind_fits all o ks (slice_get cs p) h) (λ m g. valued_fits all o cs ps m g)
 
 settled_fits : (all : List Token) (o : Outside) (cs : List Declaration) (out : Order) → GoesWell (AllByRecursion Fit) (settled all o cs out)
 settled_fits all o cs (in_order ps) = valued_fits all o cs ps [] tt
 settled_fits all o cs (stuck ps i) = tt
 
 -- the lines of declarations
-noted_low : (line start end : ℕ) (v : Verdict) (ds : List Declaration) → line < 65536 → AllByRecursion Low ds → GoesWell (AllByRecursion Low) (noted line start end v ds)
-noted_low line start end Nothing ds h l = l
-noted_low line start end (Wrong code) ds h l = tt
-noted_low line start end (Declares f m) ds h l = All-push Low ds (record { function = f; name = m; line = line; start = start + 3; end = end }) l h
+noted_low : (line start end : ℕ) (v : Result (Option Declared) Flaw) (ds : List Declaration) → line < 65536 → AllByRecursion Low ds → GoesWell (AllByRecursion Low) (noted line start end v ds)
+noted_low line start end (Ok None) ds h l = l
+noted_low line start end (Err flaw) ds h l = tt
+noted_low line start end (Ok (Some d)) ds h l = All-push Low ds (record { kind = d.kind; name = d.name; line = line; start = start + 3; end = end }) l h
 
 walk_low : (all ts : List Token) (start i line : ℕ) (ds : List Declaration) → line + length ts ≤ 65535 → AllByRecursion Low ds → GoesWell (AllByRecursion Low) (walk all start i line ds ts)
 walk_low all [] start i line ds h l = l

@@ -1,13 +1,12 @@
 -- What holds of a state, and what every part of an expression keeps, the whole keeps.
-use Rattle.std.specs.Prelude.{ℕ, zero, suc, Bool, true, false, cond, List, [], ◌∷◌, ℤ, Some, None, Ok, Err, Option, Result}
+use Rattle.std.specs.Prelude.{ℕ, zero, suc, List, [], ◌∷◌, ℤ, Some, None, Ok, Err, Option, Result}
 use Rattle.names.specs.declared.name.Name.{Name}
 use Rattle.names.specs.declared.refusal.Fault.{Fault}
 use Rattle.tokens.specs.declared.token.Operator.{Operator}
 use Rattle.tokens.specs.declared.token.Token.{Token}
 use Rattle.tokens.specs.declared.token.Token.TheVariants.{Open, Close, Operator as Sign, Name as Named, Word, Number, NoForm, LineEnd}
-use Rattle.grammar.specs.Expression.{closes}
+use Rattle.grammar.specs.Expression.{Meaning, past, leaving, one, two, headed, within, begun, level, expression}
 use Rattle.grammar.specs.Walk.{onward}
-use Rattle.emission.specs.Acting.{Acting, leaving, closing, one, two, headed, within, begun, level, performed}
 use Rattle.emission.specs.Wrote.{then}
 
 abbrev pub Holds : {S : Type 0} → (S → Type 0) → Option S → Type 0
@@ -27,34 +26,32 @@ onward-holds P R (Ok s) k h g = g s h
 onward-holds P R (Err f) k h g = tt
 
 -- of the state that is left
-abbrev pub First : {S : Type 0} → (S → Type 0) → Option (S × List Token) → Type 0
-First P o = Holds (λ r. P r.0) o
+abbrev pub OfState : {S A : Type 0} → (S → Type 0) → Option (A × S) → Type 0
+OfState P o = Holds (λ r. P r.1) o
 
-module _ {S : Type 0} (m : Acting S) (P : S → Type 0)
-    (number : (v : ℤ) (s : S) → P s → Holds P (m.number v s)) (named : (n : Name) (s : S) → P s → Holds P (m.named n s)) (word : (p : ℕ) (n : Name) (s : S) → P s → Holds P (m.word p n s))
-    (operation : (o : Operator) (s : S) → P s → Holds P (m.operation o s)) (call : (n : Name) (s : S) → P s → Holds P (m.call n s)) (call_word : (p : ℕ) (n : Name) (s : S) → P s → Holds P (m.call_word p n s)) where
-  leaves : (ts : List Token) (o : Option S) → Holds P o → First P (leaving m ts o)
-  leaves ts None h = tt
-  leaves ts (Some s) h = h
+-- of the state that is left before some tokens
+abbrev pub Left : {S A : Type 0} → (S → Type 0) → Option (A × S × List Token) → Type 0
+Left P o = Holds (λ r. P r.1) o
 
-  by_close : (ts : List Token) (o : Option S) (b : Bool) → Holds P o → First P (cond b (leaving m ts o) None)
-  by_close ts o true h = leaves ts o h
-  by_close ts o false h = tt
+module _ {S A : Type 0} (m : Meaning S A) (P : S → Type 0)
+    (number : (v : ℤ) (s : S) → P s → OfState P (m.number v s)) (named : (n : Name) (s : S) → P s → OfState P (m.named n s)) (word : (p : ℕ) (n : Name) (s : S) → P s → OfState P (m.word p n s))
+    (operation : (o : Operator) (a b : A) (s : S) → P s → OfState P (m.operation o a b s)) (call : (n : Name) (a : A) (s : S) → P s → OfState P (m.call n a s))
+    (call_word : (p : ℕ) (n : Name) (a : A) (s : S) → P s → OfState P (m.call_word p n a s)) where
+  leaves : (o : Option (A × S)) (ts : Option (List Token)) → OfState P o → Left P (leaving m o ts)
+  leaves None ts h = tt
+  leaves (Some p) None h = tt
+  leaves (Some p) (Some ts) h = h
 
-  closes_so : (o : Option S) (ts : List Token) → Holds P o → First P (closing m o ts)
-  closes_so o [] h = tt
-  closes_so o (t ∷ ts) h = by_close ts o (closes t) h
-
-  one_so : (f : S → Option S) → ((s : S) → P s → Holds P (f s)) → (x : Option (S × List Token)) → First P x → First P (one m f x)
+  one_so : (f : A → S → Option (A × S)) → ((a : A) (s : S) → P s → OfState P (f a s)) → (x : Option (A × S × List Token)) → Left P x → Left P (one m f x)
   one_so f g None h = tt
-  one_so f g (Some p) h = closes_so (f p.0) p.1 (g p.0 h)
+  one_so f g (Some p) h = leaves (f p.0 p.1) (past p.2) (g p.0 p.1 h)
 
-  module _ (inner : S → List Token → Option (S × List Token)) (deep : (s : S) (ts : List Token) → P s → First P (inner s ts)) where
-    two_so : (f : S → Option S) → ((s : S) → P s → Holds P (f s)) → (x : Option (S × List Token)) → First P x → First P (two m inner f x)
+  module _ (inner : S → List Token → Option (A × S × List Token)) (deep : (s : S) (ts : List Token) → P s → Left P (inner s ts)) where
+    two_so : (f : A → A → S → Option (A × S)) → ((a b : A) (s : S) → P s → OfState P (f a b s)) → (x : Option (A × S × List Token)) → Left P x → Left P (two m inner f x)
     two_so f g None h = tt
-    two_so f g (Some p) h = one_so f g (inner p.0 p.1) (deep p.0 p.1 h)
+    two_so f g (Some p) h = one_so (f p.0) (g p.0) (inner p.1 p.2) (deep p.1 p.2 h)
 
-    headed_so : (s : S) (t : Token) (ts : List Token) → P s → First P (headed m inner s t ts)
+    headed_so : (s : S) (t : Token) (ts : List Token) → P s → Left P (headed m inner s t ts)
     headed_so s Open ts h = tt
     headed_so s Close ts h = tt
     headed_so s (Sign o) ts h = two_so (m.operation o) (operation o) (inner s ts) (deep s ts h)
@@ -64,24 +61,24 @@ module _ {S : Type 0} (m : Acting S) (P : S → Type 0)
     headed_so s NoForm ts h = tt
     headed_so s LineEnd ts h = tt
 
-    within_so : (s : S) (ts : List Token) → P s → First P (within m inner s ts)
+    within_so : (s : S) (ts : List Token) → P s → Left P (within m inner s ts)
     within_so s [] h = tt
     within_so s (t ∷ ts) h = headed_so s t ts h
 
-    begun_so : (s : S) (t : Token) (ts : List Token) → P s → First P (begun m inner s t ts)
+    begun_so : (s : S) (t : Token) (ts : List Token) → P s → Left P (begun m inner s t ts)
     begun_so s Open ts h = within_so s ts h
     begun_so s Close ts h = tt
     begun_so s (Sign o) ts h = tt
-    begun_so s (Named n) ts h = leaves ts (m.named n s) (named n s h)
-    begun_so s (Word p n) ts h = leaves ts (m.word p n s) (word p n s h)
-    begun_so s (Number v) ts h = leaves ts (m.number v s) (number v s h)
+    begun_so s (Named n) ts h = leaves (m.named n s) (Some ts) (named n s h)
+    begun_so s (Word p n) ts h = leaves (m.word p n s) (Some ts) (word p n s h)
+    begun_so s (Number v) ts h = leaves (m.number v s) (Some ts) (number v s h)
     begun_so s NoForm ts h = tt
     begun_so s LineEnd ts h = tt
 
-    level_so : (s : S) (ts : List Token) → P s → First P (level m inner s ts)
+    level_so : (s : S) (ts : List Token) → P s → Left P (level m inner s ts)
     level_so s [] h = tt
     level_so s (t ∷ ts) h = begun_so s t ts h
 
-  pub performed_so : (levels : ℕ) (s : S) (ts : List Token) → P s → First P (performed m levels s ts)
-  performed_so zero s ts h = tt
-  performed_so (suc levels) s ts h = level_so (performed m levels) (performed_so levels) s ts h
+  pub expression_so : (levels : ℕ) (s : S) (ts : List Token) → P s → Left P (expression m levels s ts)
+  expression_so zero s ts h = tt
+  expression_so (suc levels) s ts h = level_so (expression m levels) (expression_so levels) s ts h

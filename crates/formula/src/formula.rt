@@ -8,12 +8,13 @@ ghost use Rattle.formula.specs.Limits.{keeps};
 
 use crate::phases::compile;
 use bounded::Bounded;
-use grammar::{Declaration, declare};
+use grammar::{Declaration, Flaw, declare};
 use names::Fault;
 use product::{Interface, Product};
+use scope::Unit;
 use std::alloc::{AllocError, Global};
 use tokens::{Token, read};
-use translator::{Translator, admits, same_rows};
+use translator::{Translator, admit, same_rows};
 use values::{Known, Solver};
 
 // A translator of formula sources, with the memory that it works in.
@@ -69,21 +70,15 @@ impl Translator for Formula {
         out: &mut Product,
     ) -> Result<(), Fault> {
         self.count = self.count.wrapping_add(1);
-        if !admits(source, imports) {
-            return Err(Fault { code: 9, line: 0 });
-        }
-        read(source, &mut self.tokens);
-        if let Err(fault) = declare(&self.tokens, &mut self.declarations) {
-            return Err(fault);
-        }
-        compile(
-            &mut self.solver,
-            &mut self.known,
-            self.tokens.as_slice(),
+        admit(source, imports)?;
+        read(source, &mut self.tokens).map_err(|_| Flaw::TooMuch.at(0))?;
+        declare(&self.tokens, &mut self.declarations)?;
+        let unit = Unit {
+            tokens: self.tokens.as_slice(),
+            own: self.declarations.as_slice(),
             imports,
-            self.declarations.as_slice(),
-            out,
-        )
+        };
+        compile(&mut self.solver, &mut self.known, &unit, out)
     }
 
     fn compare(&self, a: &Interface, b: &Interface) -> bool {

@@ -1,72 +1,43 @@
 // The phases behind the reading of the lines.
-ghost use Rattle.std.specs.Prelude.{◌≡◌, map};
-ghost use Rattle.product.specs.Parts.{rows, parts, no_parts};
+ghost use Rattle.std.specs.Prelude.{◌≡◌, is_ok};
+ghost use Rattle.product.specs.Parts.{parts, no_parts};
 ghost use Rattle.translator.specs.Owed.{shown};
 ghost use Rattle.scope.specs.Names.{misnamed};
-ghost use Rattle.scope.specs.Uses.{outside};
-ghost use Rattle.values.specs.Solved.{solved};
-ghost use Rattle.emission.specs.Wrote.{then};
+ghost use Rattle.scope.specs.Sees.{sees};
+ghost use Rattle.emission.specs.Wrote.{done, then};
 ghost use Rattle.emission.specs.Emitted.{functions, rows_of};
-ghost use Rattle.formula.specs.Language.{written, with_values, with_names};
+ghost use Rattle.formula.specs.Language.{with_names};
 
-use bounded::Bounded;
-use emission::{emit_functions, show_rows};
-use grammar::Declaration;
+use bounded::{Bounded, Full};
+use emission::Emitting;
+use grammar::Flaw;
 use names::Fault;
-use product::{Interface, Product};
-use scope::{check_names, check_uses};
-use tokens::Token;
+use product::Product;
+use scope::{Unit, check_names};
 use values::{Known, Solver};
 
-fn write(
-    tokens: &[Token],
-    imports: &[Interface],
-    own: &[Declaration],
-    known: &[Known],
-    out: &mut Product,
-) -> Result<(), Fault>
-    ensures { shown result (parts out.new) ≡ written tokens.now (outside (map rows imports.now)) (then (rows_of known.now 0 no_parts own.now) (λ p. functions own.now known.now (outside (map rows imports.now)) tokens.now p own.now)) }
+fn write(emitting: &Emitting<'_>, out: &mut Product) -> Result<(), Full>
+    ensures { done (is_ok result) (parts out.new) ≡ then (rows_of emitting.now.known.now 0 no_parts emitting.now.unit.own.now) (λ p. functions emitting.now.unit.own.now emitting.now.known.now (sees emitting.now.unit) emitting.now.unit.tokens.now p emitting.now.unit.own.now) }
 {
-    if !show_rows(own, known, out) {
-        return Err(Fault { code: 9, line: 0 });
-    }
-    if !emit_functions(own, known, imports, tokens, out) {
-        return Err(Fault { code: 9, line: 0 });
-    }
-    Ok(())
-}
-
-fn solve(
-    solver: &mut Solver,
-    known: &mut Bounded<Known, 12>,
-    tokens: &[Token],
-    imports: &[Interface],
-    own: &[Declaration],
-    out: &mut Product,
-) -> Result<(), Fault>
-    ensures { shown result (parts out.new) ≡ with_values tokens.now (outside (map rows imports.now)) own.now (solved tokens.now (outside (map rows imports.now)) own.now) }
-{
-    if let Err(fault) = solver.solve(tokens, imports, own, known) {
-        return Err(fault);
-    }
-    write(tokens, imports, own, known.as_slice(), out)
+    emitting.show_rows(out)?;
+    emitting.emit_functions(out)
 }
 
 pub fn compile(
     solver: &mut Solver,
     known: &mut Bounded<Known, 12>,
-    tokens: &[Token],
-    imports: &[Interface],
-    own: &[Declaration],
+    unit: &Unit<'_>,
     out: &mut Product,
 ) -> Result<(), Fault>
-    ensures { shown result (parts out.new) ≡ with_names tokens.now (outside (map rows imports.now)) own.now (misnamed own.now 0 own.now) }
+    ensures { shown result (parts out.new) ≡ with_names unit.now.tokens.now (sees unit.now) unit.now.own.now (misnamed unit.now.own.now 0 unit.now.own.now) }
 {
-    if let Some(fault) = check_names(own) {
-        return Err(fault);
-    }
-    if let Some(fault) = check_uses(tokens, own, imports) {
-        return Err(fault);
-    }
-    solve(solver, known, tokens, imports, own, out)
+    check_names(unit.own)?;
+    unit.check_uses()?;
+    solver.solve(unit, known)?;
+    let emitting = Emitting {
+        unit: *unit,
+        known: known.as_slice(),
+    };
+    write(&emitting, out).map_err(|_| Flaw::TooMuch.at(0))?;
+    Ok(())
 }

@@ -1,6 +1,6 @@
 // Each test takes sources with the fault that they have, or with the code that they give.
 use formula::Formula;
-use names::Name;
+use names::{Fault, Name};
 use product::{Interface, Product, Row};
 use std::alloc::Global;
 use std::test::Fail;
@@ -9,6 +9,20 @@ use translator::Translator;
 // Fails a test where the condition does not hold.
 fn check(holds: bool, what: &str) -> Result<(), Fail> {
     if holds { Ok(()) } else { Err(Fail::new(what)) }
+}
+
+// The product that a source translates to, or its fault.
+fn translated(
+    heap: Global,
+    source: &[u8],
+    imports: &[Interface],
+) -> Result<Result<Product, Fault>, Fail> {
+    let mut translator = Formula::open(heap)?;
+    let mut out = Product::open(heap)?;
+    Ok(match translator.translate(source, imports, &mut out) {
+        Ok(()) => Ok(out),
+        Err(fault) => Err(fault),
+    })
 }
 
 // The source has the fault.
@@ -24,14 +38,9 @@ fn faults_with(
     code: u8,
     line: u16,
 ) -> Result<(), Fail> {
-    let mut translator = Formula::open(heap)?;
-    let mut out = Product::open(heap)?;
-    match translator.translate(source, imports.as_slice(), &mut out) {
-        Ok(_) => { check(code == 0, "no fault") }
-        Err(fault) => {
-            check(fault.code == code, "the fault's code")?;
-            check(fault.line == line, "the fault's line")
-        }
+    match translated(heap, source, imports.as_slice())? {
+        Ok(_) => Err(Fail::new("no fault")),
+        Err(fault) => check(fault == Fault { code, line }, "the fault's code and line"),
     }
 }
 
@@ -49,26 +58,13 @@ fn gives_with(
     value: i32,
     code: &[u8],
 ) -> Result<(), Fail> {
-    let mut translator = Formula::open(heap)?;
-    let mut out = Product::open(heap)?;
-    match translator.translate(source, imports.as_slice(), &mut out) {
-        Ok(_) => {
-            check(out.interface.rows().len() == rows, "the number of rows")?;
-            check(
-                last_value(out.interface.rows()) == value,
-                "the last row's value",
-            )?;
-            check(*out.code.as_slice() == *code, "the code")
-        }
-        Err(fault) => check(fault.code == 0, "a fault"),
-    }
-}
-
-fn last_value(rows: &[Row]) -> i32 {
-    match rows {
-        [.., row] => row.value,
-        _ => 0,
-    }
+    let Ok(out) = translated(heap, source, imports.as_slice())? else {
+        return Err(Fail::new("a fault"));
+    };
+    let last = out.interface.rows().last().map_or(0, |row| row.value);
+    check(out.interface.rows().len() == rows, "the number of rows")?;
+    check(last == value, "the last row's value")?;
+    check(out.code.as_slice() == code, "the code")
 }
 
 // Interfaces, as many as asked, with one row each.
@@ -88,20 +84,14 @@ fn ones(
 
 fn one(heap: Global, name: &[u8], kind: u8, value: i32) -> Result<Interface, Fail> {
     let mut interface = Interface::open(heap)?;
-    let Ok(name) = Name::from_text(name) else {
-        return Err(Fail::new("no name"));
+    let name = Name::from_text(name).map_err(|_| Fail::new("no name"))?;
+    let row = Row {
+        name,
+        kind,
+        value,
+        line: 1,
     };
-    if interface
-        .push(Row {
-            name,
-            kind,
-            value,
-            line: 1,
-        })
-        .is_err()
-    {
-        return Err(Fail::new("no room"));
-    }
+    interface.push(row).map_err(|_| Fail::new("no room"))?;
     Ok(interface)
 }
 

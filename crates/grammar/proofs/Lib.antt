@@ -1,3 +1,2 @@
-pub mod Levels
 pub mod Turns
 pub mod Walks

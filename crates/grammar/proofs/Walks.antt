@@ -1,13 +1,13 @@
 -- The turns of the loop over the tokens of a unit.
-use Rattle.std.proofs.Common.{◌≡◌, ℕ, ◌+◌, ◌-◌, ◌<◌, ◌≤◌, min, Bool, true, false, cond, List, [], ◌∷◌, ◌++◌, length, get_or, take, drop, Ok, Err, Result, sym, ap, ◌∙◌, ⊎_elim, arith}
+use Rattle.std.proofs.Common.{◌≡◌, ℕ, ◌+◌, ◌-◌, ◌<◌, ◌≤◌, min, Bool, true, false, cond, List, [], ◌∷◌, ◌++◌, length, get_or, take, drop, Some, None, Option, Ok, Err, Result, sym, ap, ◌∙◌, ⊎_elim, arith}
 use Rattle.std.proofs.lemmas.List.{take_all, drop_all, length-take, length-append}
 use Rattle.std.proofs.lemmas.Slice.{between_is}
 use Rattle.std.proofs.lemmas.Bool.{cases_lt}
 use Rattle.names.specs.declared.refusal.Fault.{Fault}
 use Rattle.tokens.specs.declared.token.Token.{Token}
-use Rattle.grammar.specs.declared.verdict.Verdict.{Verdict}
-use Rattle.grammar.specs.declared.verdict.Verdict.TheVariants.{Nothing, Wrong, Declares}
-use Rattle.grammar.specs.declared.verdict.Declaration.{Declaration}
+use Rattle.grammar.specs.declared.declaration.Declared.{Declared}
+use Rattle.grammar.specs.declared.declaration.Declaration.{Declaration}
+use Rattle.grammar.specs.declared.flaw.Flaw.{Flaw}
 use Rattle.grammar.specs.Line.{said}
 use Rattle.grammar.specs.Walk.{ends, noted, onward, walk}
 use Rattle.grammar.proofs.Turns.{turn}
@@ -32,7 +32,7 @@ module _ (all : List Token) (start i line : ℕ) (ds : List Declaration) (r : Re
   ended : e ≡ true → onward (noted line start i (said line (take (i - start) (drop start all))) ds) (λ more. walk all (i + 1) (i + 1) (line + 1) more (drop (i + 1) all)) ≡ r
   ended f = sym (ap (λ b. cond b (onward (noted line start i (said line (take (i - start) (drop start all))) ds) (λ more. walk all (i + 1) (i + 1) (line + 1) more (drop (i + 1) all))) (walk all start (i + 1) line ds (drop (i + 1) all))) f) ∙ there
 
-  module _ (v : Verdict) (is : v ≡ said line (take (i - start) (drop start all))) where
+  module _ (v : Result (Option Declared) Flaw) (is : v ≡ said line (take (i - start) (drop start all))) where
     pub goes : (more : List Declaration) → e ≡ true → Ok more ≡ noted line start i v ds → walk all (i + 1) (i + 1) (line + 1) more (drop (i + 1) all) ≡ r
     goes more f n = ap (λ k. onward k (λ ms. walk all (i + 1) (i + 1) (line + 1) ms (drop (i + 1) all))) (n ∙ ap (λ w. noted line start i w ds) is) ∙ ended f
 
@@ -40,9 +40,9 @@ module _ (all : List Token) (start i line : ℕ) (ds : List Declaration) (r : Re
     stops fault f n = ap (λ k. onward k (λ ms. walk all (i + 1) (i + 1) (line + 1) ms (drop (i + 1) all))) (n ∙ ap (λ w. noted line start i w ds) is) ∙ ended f
 
 -- a line adds at most one declaration
-pub noted_few : (line start end : ℕ) (v : Verdict) (ds more : List Declaration) → Ok more ≡ noted line start end v ds → length more ≤ length ds + 1
-noted_few line start end Nothing ds more e = let k : more ≡ ds = cc in omega (arith, ap length k)
-noted_few line start end (Wrong code) ds more e = let z : ◌≡◌ {A = ℕ} 0 1 = cc in omega arith
-noted_few line start end (Declares f n) ds more e =
-    let k : more ≡ ds ++ record { function = f; name = n; line = line; start = start + 3; end = end } ∷ [] = cc in
-    omega (arith, ap length k, length-append ds (record { function = f; name = n; line = line; start = start + 3; end = end } ∷ []))
+pub noted_few : (line start end : ℕ) (v : Result (Option Declared) Flaw) (ds more : List Declaration) → Ok more ≡ noted line start end v ds → length more ≤ length ds + 1
+noted_few line start end (Ok None) ds more e = let k : more ≡ ds = cc in omega (arith, ap length k)
+noted_few line start end (Err flaw) ds more e = let z : ◌≡◌ {A = ℕ} 0 1 = cc in omega arith
+noted_few line start end (Ok (Some d)) ds more e =
+    let k : more ≡ ds ++ record { kind = d.kind; name = d.name; line = line; start = start + 3; end = end } ∷ [] = cc in
+    omega (arith, ap length k, length-append ds (record { kind = d.kind; name = d.name; line = line; start = start + 3; end = end } ∷ []))

@@ -3,80 +3,68 @@ use Rattle.std.specs.Prelude.{ℕ, zero, suc, Bool, true, false, cond, List, [],
 use Rattle.names.specs.declared.name.Name.{Name}
 use Rattle.tokens.specs.declared.token.Operator.{Operator}
 use Rattle.tokens.specs.declared.token.Token.{Token}
-use Rattle.tokens.specs.declared.token.Token.TheVariants.{Open, Close, Operator as Sign, Name as Named, Word, Number, NoForm, LineEnd}
+use Rattle.tokens.specs.declared.token.Token.TheVariants.{Open, Close, Operator as Sign, Name as Named, Word, Number}
 
--- what each part of an expression comes to, if it comes to anything
-pub record Meaning (A : Type 0) : Type 0 where
-  pub number : ℤ → Option A
-  pub named : Name → Option A
-  pub word : ℕ → Name → Option A
-  pub operation : Operator → A → A → Option A
-  pub call : Name → A → Option A
-  pub call_word : ℕ → Name → A → Option A
+-- what each part of an expression comes to on a state, and what it leaves of the state, if it comes to anything
+pub record Meaning (S A : Type 0) : Type 0 where
+  pub number : ℤ → S → Option (A × S)
+  pub named : Name → S → Option (A × S)
+  pub word : ℕ → Name → S → Option (A × S)
+  pub operation : Operator → A → A → S → Option (A × S)
+  pub call : Name → A → S → Option (A × S)
+  pub call_word : ℕ → Name → A → S → Option (A × S)
 
 -- a closing parenthesis
 abbrev pub closes : Token → Bool
-closes Open = false
 closes Close = true
-closes (Sign o) = false
-closes (Named n) = false
-closes (Word p n) = false
-closes (Number v) = false
-closes NoForm = false
-closes LineEnd = false
+closes _ = false
 
-module _ {A : Type 0} (m : Meaning A) where
+-- what stands behind a closing parenthesis
+abbrev pub past : List Token → Option (List Token)
+past [] = None
+past (t ∷ ts) = cond (closes t) (Some ts) None
+
+module _ {S A : Type 0} (m : Meaning S A) where
   -- what was come to, with the tokens left behind it
-  abbrev pub leaving : List Token → Option A → Option (A × List Token)
-  leaving ts None = None
-  leaving ts (Some a) = Some (a, ts)
-
-  -- the parenthesis closes
-  abbrev pub closing : Option A → List Token → Option (A × List Token)
-  closing o [] = None
-  closing o (t ∷ ts) = cond (closes t) (leaving ts o) None
+  abbrev pub leaving : Option (A × S) → Option (List Token) → Option (A × S × List Token)
+  leaving None o = None
+  leaving (Some p) None = None
+  leaving (Some p) (Some ts) = Some (p.0, p.1, ts)
 
   -- one operand, then the end
-  abbrev pub one : (A → Option A) → Option (A × List Token) → Option (A × List Token)
+  abbrev pub one : (A → S → Option (A × S)) → Option (A × S × List Token) → Option (A × S × List Token)
   one f None = None
-  one f (Some p) = closing (f p.0) p.1
+  one f (Some p) = leaving (f p.0 p.1) (past p.2)
 
   -- two operands, then the end
-  abbrev pub two : (List Token → Option (A × List Token)) → (A → A → Option A) → Option (A × List Token) → Option (A × List Token)
+  abbrev pub two : (S → List Token → Option (A × S × List Token)) → (A → A → S → Option (A × S)) → Option (A × S × List Token) → Option (A × S × List Token)
   two inner f None = None
-  two inner f (Some p) = one (f p.0) (inner p.1)
+  two inner f (Some p) = one (f p.0) (inner p.1 p.2)
 
   -- what stands first in parentheses
-  abbrev pub headed : (List Token → Option (A × List Token)) → Token → List Token → Option (A × List Token)
-  headed inner Open ts = None
-  headed inner Close ts = None
-  headed inner (Sign o) ts = two inner (m.operation o) (inner ts)
-  headed inner (Named n) ts = one (m.call n) (inner ts)
-  headed inner (Word p n) ts = one (m.call_word p n) (inner ts)
-  headed inner (Number v) ts = None
-  headed inner NoForm ts = None
-  headed inner LineEnd ts = None
+  abbrev pub headed : (S → List Token → Option (A × S × List Token)) → S → Token → List Token → Option (A × S × List Token)
+  headed inner s (Sign o) ts = two inner (m.operation o) (inner s ts)
+  headed inner s (Named n) ts = one (m.call n) (inner s ts)
+  headed inner s (Word p n) ts = one (m.call_word p n) (inner s ts)
+  headed inner s _ ts = None
 
-  abbrev pub within : (List Token → Option (A × List Token)) → List Token → Option (A × List Token)
-  within inner [] = None
-  within inner (t ∷ ts) = headed inner t ts
+  abbrev pub within : (S → List Token → Option (A × S × List Token)) → S → List Token → Option (A × S × List Token)
+  within inner s [] = None
+  within inner s (t ∷ ts) = headed inner s t ts
 
   -- what an expression begins with
-  abbrev pub begun : (List Token → Option (A × List Token)) → Token → List Token → Option (A × List Token)
-  begun inner Open ts = within inner ts
-  begun inner Close ts = None
-  begun inner (Sign o) ts = None
-  begun inner (Named n) ts = leaving ts (m.named n)
-  begun inner (Word p n) ts = leaving ts (m.word p n)
-  begun inner (Number v) ts = leaving ts (m.number v)
-  begun inner NoForm ts = None
-  begun inner LineEnd ts = None
+  abbrev pub begun : (S → List Token → Option (A × S × List Token)) → S → Token → List Token → Option (A × S × List Token)
+  begun inner s Open ts = within inner s ts
+  begun inner s (Named n) ts = leaving (m.named n s) (Some ts)
+  begun inner s (Word p n) ts = leaving (m.word p n s) (Some ts)
+  begun inner s (Number v) ts = leaving (m.number v s) (Some ts)
+  begun inner s _ ts = None
 
-  abbrev pub level : (List Token → Option (A × List Token)) → List Token → Option (A × List Token)
-  level inner [] = None
-  level inner (t ∷ ts) = begun inner t ts
+  abbrev pub level : (S → List Token → Option (A × S × List Token)) → S → List Token → Option (A × S × List Token)
+  level inner s [] = None
+  level inner s (t ∷ ts) = begun inner s t ts
 
-  -- the expression at the front, of fewer than so many levels, and the tokens behind it
-  abbrev pub expression : ℕ → List Token → Option (A × List Token)
-  expression zero ts = None
-  expression (suc levels) ts = level (expression levels) ts
+  -- the expression at the front, of fewer than so many levels, done on s: what it comes to, what it leaves of s, and the tokens behind it
+  abbrev pub expression : ℕ → S → List Token → Option (A × S × List Token)
+  expression zero s ts = None
+  expression (suc levels) s ts = level (expression levels) s ts

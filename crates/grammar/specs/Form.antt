@@ -4,10 +4,10 @@ use Rattle.tokens.specs.declared.token.Token.{Token}
 use Rattle.grammar.specs.Expression.{Meaning}
 
 -- every part comes to something
-abbrev pub checking : Meaning (Unit {0})
-checking = record { number = λ _. Some tt; named = λ _. Some tt; word = λ _ _. Some tt; operation = λ _ _ _. Some tt; call = λ _ _. Some tt; call_word = λ _ _ _. Some tt }
+abbrev pub checking : Meaning (Unit {0}) (Unit {0})
+checking = record { number = λ _ s. Some (tt, s); named = λ _ s. Some (tt, s); word = λ _ _ s. Some (tt, s); operation = λ _ _ _ s. Some (tt, s); call = λ _ _ s. Some (tt, s); call_word = λ _ _ _ s. Some (tt, s) }
 
 -- what stands behind
-abbrev pub behind : {A : Type 0} → Option (A × List Token) → Option (List Token)
+abbrev pub behind : {A S : Type 0} → Option (A × S × List Token) → Option (List Token)
 behind None = None
-behind (Some p) = Some p.1
+behind (Some p) = Some p.2

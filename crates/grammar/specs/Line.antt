@@ -1,13 +1,17 @@
 -- What a line says: nothing, one declaration, or that it is wrong.
-use Rattle.std.specs.Prelude.{ℕ, ◌+◌, ◌-◌, Bool, true, false, cond, not, ◌&&◌, ◌||◌, List, [], ◌∷◌, Some, None, Option, ◌==◌, nat_le}
+use Rattle.std.specs.Prelude.{ℕ, ◌+◌, ◌-◌, Bool, true, false, cond, not, map, ◌&&◌, ◌||◌, List, [], ◌∷◌, Some, None, Option, Ok, Err, Result, ◌==◌, nat_le}
+use Rattle.std.specs.List.{list_any, list_all, zip}
+use Rattle.std.specs.Option.{option_map, option_and_then, ok_or}
 use Rattle.std.specs.Str.{bytes_eq}
 use Rattle.names.specs.declared.name.Name.{Name}
-use Rattle.tokens.specs.declared.token.Operator.{Operator}
-use Rattle.tokens.specs.declared.token.Operator.TheVariants.{Add, Subtract, Multiply, Divide, Less, Equal}
+use Rattle.tokens.specs.declared.token.Operator.TheVariants.{Equal}
 use Rattle.tokens.specs.declared.token.Token.{Token}
-use Rattle.tokens.specs.declared.token.Token.TheVariants.{Open, Close, Operator as Sign, Name as Named, Word, Number, NoForm, LineEnd}
-use Rattle.grammar.specs.declared.verdict.Verdict.{Verdict}
-use Rattle.grammar.specs.declared.verdict.Verdict.TheVariants.{Nothing, Wrong, Declares}
+use Rattle.tokens.specs.declared.token.Token.TheVariants.{Open, Close, Operator as Sign, Name as Named, Word, NoForm}
+use Rattle.grammar.specs.declared.declaration.Declared.{Declared}
+use Rattle.grammar.specs.declared.declaration.Kind.{Kind}
+use Rattle.grammar.specs.declared.declaration.Kind.TheVariants.{Constant, Function}
+use Rattle.grammar.specs.declared.flaw.Flaw.{Flaw}
+use Rattle.grammar.specs.declared.flaw.Flaw.TheVariants.{Opening, Formless, NoDeclaration, TooMuch}
 use Rattle.grammar.specs.Expression.{expression}
 use Rattle.grammar.specs.Form.{checking, behind}
 
@@ -26,96 +30,60 @@ formula_word = 102 ∷ 111 ∷ 114 ∷ 109 ∷ 117 ∷ 108 ∷ 97 ∷ 0 ∷ []
 
 -- the name that a token is
 abbrev pub name_of : Token → Option Name
-name_of Open = None
-name_of Close = None
-name_of (Sign o) = None
 name_of (Named n) = Some n
-name_of (Word p n) = None
-name_of (Number v) = None
-name_of NoForm = None
-name_of LineEnd = None
+name_of _ = None
 
 -- const begins a constant, fun a function
-abbrev pub keyword : Option Name → Option Bool
-keyword None = None
-keyword (Some n) = cond (bytes_eq n.bytes const_word) (Some false) (cond (bytes_eq n.bytes fun_word) (Some true) None)
+abbrev pub keyword : Name → Option Kind
+keyword n = cond (bytes_eq n.bytes const_word) (Some Constant) (cond (bytes_eq n.bytes fun_word) (Some Function) None)
+
+-- whether a kind is that of functions
+abbrev pub is_function : Kind → Bool
+is_function Constant = false
+is_function Function = true
 
 -- the equals sign
-abbrev pub equal_sign : Operator → Bool
-equal_sign Add = false
-equal_sign Subtract = false
-equal_sign Multiply = false
-equal_sign Divide = false
-equal_sign Less = false
-equal_sign Equal = true
-
 abbrev pub equates : Token → Bool
-equates Open = false
-equates Close = false
-equates (Sign o) = equal_sign o
-equates (Named n) = false
-equates (Word p n) = false
-equates (Number v) = false
-equates NoForm = false
-equates LineEnd = false
+equates (Sign Equal) = true
+equates _ = false
 
 -- an opening parenthesis
 abbrev pub opens : Token → Bool
 opens Open = true
-opens Close = false
-opens (Sign o) = false
-opens (Named n) = false
-opens (Word p n) = false
-opens (Number v) = false
-opens NoForm = false
-opens LineEnd = false
+opens _ = false
 
 -- a word of no form
 abbrev pub formless : Token → Bool
-formless Open = false
-formless Close = false
-formless (Sign o) = false
-formless (Named n) = false
-formless (Word p n) = false
-formless (Number v) = false
 formless NoForm = true
-formless LineEnd = false
+formless _ = false
 
 -- how many parentheses are open behind a token; one that closes nothing leaves none open
 abbrev pub open_behind : Token → ℕ → ℕ
 open_behind Open n = n + 1
 open_behind Close n = n - 1
-open_behind (Sign o) n = n
-open_behind (Named m) n = n
-open_behind (Word p m) n = n
-open_behind (Number v) n = n
-open_behind NoForm n = n
-open_behind LineEnd n = n
+open_behind _ n = n
 
 -- a word of no form stands among the tokens
 abbrev pub any_formless : List Token → Bool
-any_formless [] = false
-any_formless (t ∷ ts) = formless t || any_formless ts
+any_formless = list_any formless
 
 -- behind n open parentheses, a ninth opens
 abbrev pub deep : ℕ → List Token → Bool
 deep n [] = false
 deep n (t ∷ ts) = nat_le 9 (open_behind t n) || deep (open_behind t n) ts
 
--- in a constant a name is not x, and nothing is called; what stands behind an opening parenthesis is called
+-- each token with whether it is called: it is where it stands behind an opening parenthesis
+abbrev pub placed : List Token → List (Bool × Token)
+placed ts = zip (false ∷ map opens ts) ts
+
+-- in a constant a name is not x, and nothing is called
 abbrev pub constant : Bool → Token → Bool
-constant called Open = true
-constant called Close = true
-constant called (Sign o) = true
 constant called (Named n) = not called && not (bytes_eq n.bytes x_word)
 constant called (Word p n) = not called
-constant called (Number v) = true
-constant called NoForm = true
-constant called LineEnd = true
+constant called _ = true
 
-abbrev pub all_constant : Bool → List Token → Bool
-all_constant called [] = true
-all_constant called (t ∷ ts) = constant called t && all_constant (opens t) ts
+abbrev pub all_constant : List Token → Bool
+all_constant ts = list_all (λ p. constant p.0 p.1) (placed ts)
 
 -- nothing is left
 abbrev pub at_end : Option (List Token) → Bool
@@ -125,33 +93,30 @@ at_end (Some (t ∷ ts)) = false
 
 -- one expression, with at most eight parentheses open
 abbrev pub whole : List Token → Bool
-whole ts = at_end (behind (expression checking 9 ts))
+whole ts = at_end (behind (expression checking 9 tt ts))
 
 -- const NAME = E, without call or x; fun NAME = E
-abbrev pub equated : Bool → Name → List Token → Verdict
-equated function n [] = Wrong 3
-equated function n (t ∷ body) = cond (equates t && (whole body && (function || all_constant false body))) (Declares function n) (Wrong 3)
+abbrev pub equated : Kind → Name → List Token → Option Declared
+equated kind n [] = None
+equated kind n (t ∷ body) = cond (equates t && (whole body && (is_function kind || all_constant body))) (Some (record { kind = kind; name = n })) None
 
-abbrev pub named_so : Bool → Option Name → List Token → Verdict
-named_so function None ts = Wrong 3
-named_so function (Some n) ts = equated function n ts
+abbrev pub naming : Kind → List Token → Option Declared
+naming kind [] = None
+naming kind (t ∷ ts) = option_and_then (λ n. equated kind n ts) (name_of t)
 
-abbrev pub naming : Bool → List Token → Verdict
-naming function [] = Wrong 3
-naming function (t ∷ ts) = named_so function (name_of t) ts
+-- a declaration, of tokens that all have a form
+abbrev pub declaring : List Token → Option Declared
+declaring [] = None
+declaring (t ∷ ts) = option_and_then (λ kind. naming kind ts) (option_and_then keyword (name_of t))
 
-abbrev pub keyed : Option Bool → List Token → Verdict
-keyed None ts = Wrong 3
-keyed (Some function) ts = naming function ts
-
--- a line of tokens that all have a form
-abbrev pub declaring : List Token → Verdict
-declaring [] = Nothing
-declaring (t ∷ ts) = keyed (keyword (name_of t)) ts
+-- a line is empty, or a declaration
+abbrev pub standing : List Token → Result (Option Declared) Flaw
+standing [] = Ok None
+standing (t ∷ ts) = ok_or (option_map Some (declaring (t ∷ ts))) NoDeclaration
 
 -- a token of no form is worse than a ninth open parenthesis, and that worse than no declaration
-abbrev pub judged : List Token → Verdict
-judged ts = cond (any_formless ts) (Wrong 2) (cond (deep 0 ts) (Wrong 9) (declaring ts))
+abbrev pub judged : List Token → Result (Option Declared) Flaw
+judged ts = cond (any_formless ts) (Err Formless) (cond (deep 0 ts) (Err TooMuch) (standing ts))
 
 -- the first line's only token is formula
 abbrev pub is_formula : Option Name → Bool
@@ -163,6 +128,6 @@ opening [] = false
 opening (t ∷ []) = is_formula (name_of t)
 opening (t ∷ (u ∷ ts)) = false
 
--- what the line of that number says
-abbrev pub said : ℕ → List Token → Verdict
-said line ts = cond (line == 1) (cond (opening ts) Nothing (Wrong 1)) (judged ts)
+-- what the line of that number declares, if it declares anything
+abbrev pub said : ℕ → List Token → Result (Option Declared) Flaw
+said line ts = cond (line == 1) (cond (opening ts) (Ok None) (Err Opening)) (judged ts)

@@ -1,29 +1,24 @@
 -- The declarations of a unit, line by line.
-use Rattle.std.specs.Prelude.{ℕ, ◌+◌, ◌-◌, Bool, true, false, cond, List, [], ◌∷◌, ◌++◌, take, drop, Ok, Err, Result}
+use Rattle.std.specs.Prelude.{ℕ, ◌+◌, ◌-◌, Bool, true, false, cond, List, [], ◌∷◌, ◌++◌, take, drop, Some, None, Option, Ok, Err, Result}
 use Rattle.names.specs.declared.refusal.Fault.{Fault}
 use Rattle.tokens.specs.declared.token.Token.{Token}
-use Rattle.tokens.specs.declared.token.Token.TheVariants.{Open, Close, Operator as Sign, Name as Named, Word, Number, NoForm, LineEnd}
-use Rattle.grammar.specs.declared.verdict.Verdict.{Verdict}
-use Rattle.grammar.specs.declared.verdict.Verdict.TheVariants.{Nothing, Wrong, Declares}
-use Rattle.grammar.specs.declared.verdict.Declaration.{Declaration}
+use Rattle.tokens.specs.declared.token.Token.TheVariants.{LineEnd}
+use Rattle.grammar.specs.declared.declaration.Declared.{Declared}
+use Rattle.grammar.specs.declared.declaration.Declaration.{Declaration}
+use Rattle.grammar.specs.declared.flaw.Flaw.{Flaw}
+use Rattle.grammar.specs.Flaws.{at}
 use Rattle.grammar.specs.Line.{said}
 
 -- the end of a line
 abbrev pub ends : Token → Bool
-ends Open = false
-ends Close = false
-ends (Sign o) = false
-ends (Named n) = false
-ends (Word p n) = false
-ends (Number v) = false
-ends NoForm = false
 ends LineEnd = true
+ends _ = false
 
 -- the declarations behind a line that stands from start to end; its expression follows three tokens
-abbrev pub noted : ℕ → ℕ → ℕ → Verdict → List Declaration → Result (List Declaration) Fault
-noted line start end Nothing ds = Ok ds
-noted line start end (Wrong code) ds = Err (record { code = code; line = line })
-noted line start end (Declares function name) ds = Ok (ds ++ record { function = function; name = name; line = line; start = start + 3; end = end } ∷ [])
+abbrev pub noted : ℕ → ℕ → ℕ → Result (Option Declared) Flaw → List Declaration → Result (List Declaration) Fault
+noted line start end (Ok None) ds = Ok ds
+noted line start end (Err flaw) ds = Err (at flaw line)
+noted line start end (Ok (Some d)) ds = Ok (ds ++ record { kind = d.kind; name = d.name; line = line; start = start + 3; end = end } ∷ [])
 
 -- on from what went well
 abbrev pub onward : {X Y : Type 0} → Result X Fault → (X → Result Y Fault) → Result Y Fault

@@ -3,9 +3,11 @@ ghost use Rattle.std.specs.Prelude.{◌≡◌, ◌<◌, false};
 ghost use Rattle.std.specs.Str.{bytes_eq};
 ghost use Rattle.grammar.specs.Line.{name_of, keyword, equates, opens, formless, open_behind, any_formless, deep, constant, all_constant, whole, equated, naming, declaring, opening, said};
 
+use crate::declaration::{Declared, Kind};
 use crate::expression::check;
-use crate::verdict::Verdict;
+use crate::flaw::Flaw;
 use names::Name;
+use std::iter::once;
 use tokens::{Operator, Token};
 
 pub const X: [u8; 8] = *b"x\0\0\0\0\0\0\0";
@@ -20,7 +22,7 @@ pub const FORMULA: [u8; 8] = *b"formula\0";
 pub fn spells(name: &Name, bytes: &[u8; 8]) -> bool
     ensures { result ≡ bytes_eq name.now.bytes bytes.now }
 {
-    name.bytes()[..] == bytes[..]
+    name.bytes() == *bytes
 }
 
 fn name_in(token: &Token) -> Option<Name>
@@ -32,56 +34,42 @@ fn name_in(token: &Token) -> Option<Name>
     }
 }
 
-fn is_function(name: Option<Name>) -> Option<bool>
-    ensures { result ≡ keyword name }
+// The kind that a word begins a declaration of.
+fn keyword(word: Name) -> Option<Kind>
+    ensures { result ≡ keyword word }
 {
-    let name = name?;
-    if spells(&name, &CONST) {
-        return Some(false);
+    if spells(&word, &CONST) {
+        Some(Kind::Constant)
+    } else if spells(&word, &FUN) {
+        Some(Kind::Function)
+    } else {
+        None
     }
-    if spells(&name, &FUN) {
-        return Some(true);
-    }
-    None
 }
 
 fn is_equals(token: &Token) -> bool
     ensures { result ≡ equates token.now }
 {
-    match token {
-        Token::Operator(Operator::Equal) => true,
-        _ => false,
-    }
+    matches!(token, Token::Operator(Operator::Equal))
 }
 
 pub fn is_open(token: &Token) -> bool
     ensures { result ≡ opens token.now }
 {
-    match token {
-        Token::Open => true,
-        _ => false,
-    }
+    matches!(token, Token::Open)
 }
 
 fn has_no_form(token: &Token) -> bool
     ensures { result ≡ formless token.now }
 {
-    match token {
-        Token::NoForm => true,
-        _ => false,
-    }
+    matches!(token, Token::NoForm)
 }
 
 fn is_constant(called: bool, token: &Token) -> bool
     ensures { result ≡ constant called token.now }
 {
     match token {
-        Token::Name(name) => {
-            if called {
-                return false;
-            }
-            !spells(name, &X)
-        }
+        Token::Name(name) => !called && !spells(name, &X),
         Token::Word { .. } => !called,
         _ => true,
     }
@@ -101,17 +89,13 @@ fn opened(token: &Token, count: usize) -> usize
 fn any_no_form(tokens: &[Token]) -> bool
     ensures { result ≡ any_formless tokens.now }
 {
-    for t in tokens {
-        if has_no_form(t) {
-            return true;
-        }
-    }
-    false
+    tokens.iter().any(has_no_form)
 }
 
 fn opens_ninth(tokens: &[Token]) -> bool
     ensures { result ≡ deep 0 tokens.now }
 {
+    // kept as a loop: each token is judged by how many parentheses are open before it
     let mut count = 0;
     for t in tokens {
         count = opened(t, count);
@@ -123,99 +107,72 @@ fn opens_ninth(tokens: &[Token]) -> bool
 }
 
 fn all_constant(tokens: &[Token]) -> bool
-    ensures { result ≡ all_constant false tokens.now }
+    ensures { result ≡ all_constant tokens.now }
 {
-    let mut called = false;
-    for t in tokens {
-        if !is_constant(called, t) {
-            return false;
-        }
-        called = is_open(t);
-    }
-    true
+    once(false)
+        .chain(tokens.iter().map(is_open))
+        .zip(tokens)
+        .all(|(called, token)| is_constant(called, token))
 }
 
 fn is_whole(tokens: &[Token]) -> bool
     ensures { result ≡ whole tokens.now }
 {
-    match check(tokens, 9) {
-        Some(rest) => rest.is_empty(),
-        None => false,
-    }
+    check(tokens, 9).is_some_and(|rest| rest.is_empty())
 }
 
-fn after_name(function: bool, name: Name, tokens: &[Token]) -> Verdict
-    ensures { result ≡ equated function name tokens.now }
+fn after_name(kind: Kind, name: Name, tokens: &[Token]) -> Option<Declared>
+    ensures { result ≡ equated kind name tokens.now }
 {
-    let Some((token, body)) = tokens.split_first() else {
-        return Verdict::Wrong(3);
-    };
-    if !is_equals(token) {
-        return Verdict::Wrong(3);
+    let (token, body) = tokens.split_first()?;
+    if is_equals(token) && is_whole(body) && (kind == Kind::Function || all_constant(body)) {
+        return Some(Declared { kind, name });
     }
-    if !is_whole(body) {
-        return Verdict::Wrong(3);
-    }
-    if function || all_constant(body) {
-        return Verdict::Declares { function, name };
-    }
-    Verdict::Wrong(3)
+    None
 }
 
-fn after_keyword(function: bool, tokens: &[Token]) -> Verdict
-    ensures { result ≡ naming function tokens.now }
+fn after_keyword(kind: Kind, tokens: &[Token]) -> Option<Declared>
+    ensures { result ≡ naming kind tokens.now }
 {
-    let Some((token, rest)) = tokens.split_first() else {
-        return Verdict::Wrong(3);
-    };
-    match name_in(token) {
-        Some(name) => after_name(function, name, rest),
-        None => Verdict::Wrong(3),
-    }
+    let (token, rest) = tokens.split_first()?;
+    after_name(kind, name_in(token)?, rest)
 }
 
-fn declaration(tokens: &[Token]) -> Verdict
+fn declaration(tokens: &[Token]) -> Option<Declared>
     ensures { result ≡ declaring tokens.now }
 {
-    let Some((token, rest)) = tokens.split_first() else {
-        return Verdict::Nothing;
-    };
-    match is_function(name_in(token)) {
-        Some(function) => after_keyword(function, rest),
-        None => Verdict::Wrong(3),
-    }
+    let (token, rest) = tokens.split_first()?;
+    after_keyword(keyword(name_in(token)?)?, rest)
 }
 
 fn is_opening(tokens: &[Token]) -> bool
     ensures { result ≡ opening tokens.now }
 {
-    let Some((token, rest)) = tokens.split_first() else {
-        return false;
-    };
-    if !rest.is_empty() {
-        return false;
-    }
-    match name_in(token) {
-        Some(name) => spells(&name, &FORMULA),
-        None => false,
+    match tokens {
+        [token] => name_in(token).is_some_and(|name| spells(&name, &FORMULA)),
+        _ => false,
     }
 }
 
-// What the line of that number says.
-pub fn judge(line: u16, tokens: &[Token]) -> Verdict
+// What the line of that number declares, if it declares anything.
+pub fn judge(line: u16, tokens: &[Token]) -> Result<Option<Declared>, Flaw>
     ensures { result ≡ said line tokens.now }
 {
     if line == 1 {
-        if is_opening(tokens) {
-            return Verdict::Nothing;
-        }
-        return Verdict::Wrong(1);
+        return if is_opening(tokens) {
+            Ok(None)
+        } else {
+            Err(Flaw::Opening)
+        };
     }
     if any_no_form(tokens) {
-        return Verdict::Wrong(2);
+        return Err(Flaw::Formless);
     }
     if opens_ninth(tokens) {
-        return Verdict::Wrong(9);
+        return Err(Flaw::TooMuch);
     }
-    declaration(tokens)
+    if tokens.is_empty() {
+        return Ok(None);
+    }
+    declaration(tokens).map(Some).ok_or(Flaw::NoDeclaration)
 }

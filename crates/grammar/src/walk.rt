@@ -3,8 +3,9 @@ ghost use Rattle.std.specs.Prelude.{◌≡◌, ◌<◌, length};
 ghost use Rattle.bounded.specs.Held.{held};
 ghost use Rattle.grammar.specs.Walk.{ends, noted, declarations, told, body};
 
+use crate::declaration::{Declaration, Declared};
+use crate::flaw::Flaw;
 use crate::line::judge;
-use crate::verdict::{Declaration, Verdict};
 use bounded::Bounded;
 use names::Fault;
 use tokens::Token;
@@ -12,10 +13,7 @@ use tokens::Token;
 fn is_line_end(token: &Token) -> bool
     ensures { result ≡ ends token.now }
 {
-    match token {
-        Token::LineEnd => true,
-        _ => false,
-    }
+    matches!(token, Token::LineEnd)
 }
 
 // Takes down what a line said.
@@ -23,27 +21,23 @@ fn note(
     line: u16,
     start: usize,
     end: usize,
-    verdict: Verdict,
+    said: Result<Option<Declared>, Flaw>,
     out: &mut Bounded<Declaration, 513>,
 ) -> Result<(), Fault>
     requires { (length (held out.old) < 513) × (start < 1000) }
-    ensures { told result (held out.new) ≡ noted line start end verdict (held out.old) }
+    ensures { told result (held out.new) ≡ noted line start end said (held out.old) }
 {
-    match verdict {
-        Verdict::Nothing => Ok(()),
-        Verdict::Wrong(code) => Err(Fault { code, line }),
-        Verdict::Declares { function, name } => {
-            let start = start + 3;
-            let _ = out.push(Declaration {
-                function,
-                name,
-                line,
-                start,
-                end,
-            });
-            Ok(())
-        }
+    if let Some(Declared { kind, name }) = said.map_err(|flaw| flaw.at(line))? {
+        let start = start + 3;
+        let _ = out.push(Declaration {
+            kind,
+            name,
+            line,
+            start,
+            end,
+        });
     }
+    Ok(())
 }
 
 // Fills the list with the declarations, or answers the first wrong line.
@@ -56,13 +50,11 @@ pub fn declare(
     out.clear();
     let all = tokens.as_slice();
     let mut start = 0;
+    // kept as a counter: places are counted among all tokens, lines only at their ends
     let mut line: u16 = 1;
     for (i, t) in all.iter().enumerate() {
         if is_line_end(t) {
-            let verdict = judge(line, &all[start..i]);
-            if let Err(fault) = note(line, start, i, verdict, out) {
-                return Err(fault);
-            }
+            note(line, start, i, judge(line, &all[start..i]), out)?;
             start = i + 1;
             line += 1;
         }

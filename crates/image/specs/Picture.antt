@@ -8,6 +8,7 @@ use Rattle.codec.specs.Format.{Format, next, many, each, listed, tested, byte, p
 use Rattle.image.specs.Dealt.{lists, dealt}
 use Rattle.image.specs.declared.target.Target.{Target}
 use Rattle.image.specs.declared.image.Image.{Image}
+use Rattle.image.specs.declared.sections.Sections.{Sections}
 
 -- the parts of all units, in link order
 pub record Units : Type 0 where
@@ -16,15 +17,13 @@ pub record Units : Type 0 where
   pub entries : List (List ℕ)
   pub references : List (List Target)
 
+-- what sections hold
+abbrev pub parts : Sections → Units
+parts s = record { names = held s.names; codes = lists s.codes; entries = lists s.entries; references = lists s.references }
+
 -- what an image holds
 abbrev pub units : Image → Units
-units i =
-    record {
-      names = held i.names;
-      codes = lists i.codes;
-      entries = lists i.entries;
-      references = lists i.references;
-    }
+units i = parts i.sections
 
 -- no units
 abbrev pub no_units : Units

@@ -1,9 +1,9 @@
 // What the sections of an image must keep among one another.
 ghost use Rattle.std.specs.Prelude.{◌≡◌};
 ghost use Rattle.std.specs.List.{list_all};
-ghost use Rattle.image.specs.Picture.{units, different, placed, present, valid};
+ghost use Rattle.image.specs.Picture.{parts, different, placed, present, valid};
 
-use crate::image::Image;
+use crate::sections::Sections;
 use crate::target::Target;
 use codec::all_below;
 use names::Name;
@@ -22,24 +22,24 @@ fn all_different(names: &[Name]) -> bool
     true
 }
 
-impl Image {
+impl Sections {
     // Whether a target is there.
     fn has_entry(&self, t: Target) -> bool
-        ensures { result ≡ present (units self.now).entries t }
+        ensures { result ≡ present (parts self.now).entries t }
     {
         usize::from(t.entry) < self.entries.get(usize::from(t.unit)).len()
     }
 
     // Whether all targets are there.
     fn all_present(&self, targets: &[Target]) -> bool
-        ensures { result ≡ list_all (present (units self.now).entries) targets.now }
+        ensures { result ≡ list_all (present (parts self.now).entries) targets.now }
     {
         targets.iter().all(|t| self.has_entry(*t))
     }
 
     // Whether the references of all units go to entries that are there.
     fn all_meet(&self) -> bool
-        ensures { result ≡ list_all (list_all (present (units self.now).entries)) (units self.now).references }
+        ensures { result ≡ list_all (list_all (present (parts self.now).entries)) (parts self.now).references }
     {
         self.references
             .lists
@@ -50,7 +50,7 @@ impl Image {
 
     // Whether the entries of all units stand in their code.
     fn all_placed(&self) -> bool
-        ensures { result ≡ placed (units self.now).codes (units self.now).entries }
+        ensures { result ≡ placed (parts self.now).codes (parts self.now).entries }
     {
         let codes = self.codes.lists.as_slice();
         let entries = self.entries.lists.as_slice();
@@ -62,7 +62,7 @@ impl Image {
 
     // Whether names differ, entries stand in code, and references go to entries that are there.
     pub(crate) fn is_valid(&self) -> bool
-        ensures { result ≡ valid (units self.now) }
+        ensures { result ≡ valid (parts self.now) }
     {
         all_different(self.names.as_slice()) && self.all_placed() && self.all_meet()
     }

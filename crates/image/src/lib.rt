@@ -10,6 +10,7 @@ pub mod image;
 pub mod lists;
 pub mod read;
 pub mod rows;
+pub mod sections;
 pub mod target;
 pub mod write;
 

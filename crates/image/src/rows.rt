@@ -1,6 +1,6 @@
 // Sections of lists, and of rows that begin with the position of their unit.
 ghost use Rattle.std.specs.Prelude.{◌≡◌, ◌<◌, ◌≤◌, ◌∷◌, length};
-ghost use Rattle.bounded.specs.Held.{held, used};
+ghost use Rattle.bounded.specs.Held.{held};
 ghost use Rattle.codec.specs.Format.{left, filled, each, listed, pair};
 ghost use Rattle.image.specs.Dealt.{lists, run, run_read, dealt};
 ghost use Rattle.image.specs.Picture.{exactly};
@@ -44,8 +44,7 @@ impl<T: Field + Drop, const N: usize> Column<T, N> {
     // Reads a section of the rows of so many units, in place of what is held.
     pub(crate) fn read_dealt(&mut self, input: &mut Input<'_>, units: u8) -> Result<(), Malformed>
         requires { units ≤ 24 }
-        ensures parts { filled result (lists self.new) (left input.new) ≡ (dealt N units T.Field.format).get (left input.old) }
-        ensures few { length (used self.new.lists) ≤ units }
+        ensures { filled result (lists self.new) (left input.new) ≡ (dealt N units T.Field.format).get (left input.old) }
     {
         self.lists.clear();
         let mut others = u16::read_count(input)?;
@@ -59,8 +58,7 @@ impl<T: Field + Drop, const N: usize> Column<T, N> {
     // Reads a count, which must be the number of units, and a section for each, in place of what is held.
     pub(crate) fn read_exactly(&mut self, input: &mut Input<'_>, units: u8) -> Result<(), Malformed>
         requires { units ≤ 24 }
-        ensures parts { filled result (lists self.new) (left input.new) ≡ (exactly units (listed pair N T.Field.format)).get (left input.old) }
-        ensures few { length (used self.new.lists) ≤ units }
+        ensures { filled result (lists self.new) (left input.new) ≡ (exactly units (listed pair N T.Field.format)).get (left input.old) }
     {
         self.lists.clear();
         Malformed::unless(u8::read(input)? == units)?;

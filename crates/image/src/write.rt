@@ -2,10 +2,11 @@
 ghost use Rattle.std.specs.Prelude.{◌≡◌, length, if◌then◌else◌, nat_le};
 ghost use Rattle.names.specs.Refusals.{answer};
 ghost use Rattle.image.specs.Laid.{Wrote};
-ghost use Rattle.image.specs.Picture.{units, image_bytes};
+ghost use Rattle.image.specs.Picture.{parts, units, image_bytes};
 ghost use Rattle.image.specs.Round.{ReadsBack, RoundTrip};
 
 use crate::image::Image;
+use crate::sections::Sections;
 use codec::{Buffer, Count, Sink};
 use names::Refusal;
 
@@ -16,26 +17,28 @@ pub fn longest() -> usize
     1 + 24 * 8 + 1 + 24 * (2 + 384) + 2 + 24 * 12 * 3 + 2 + 24 * 32 * 3
 }
 
-impl Image {
-    // How many bytes the image has.
-    pub fn size(&self) -> usize
-        ensures { result ≡ length (image_bytes (units self.now)) }
-    {
-        6 + 8 * self.names.len()
-            + 2 * self.codes.lists.len()
-            + self.codes.total()
-            + 3 * self.entries.total()
-            + 3 * self.references.total()
-    }
-
+impl Sections {
     // Puts the sections, where they have room.
     fn append_sections<S: Sink>(&self, out: &mut S)
-        ensures { S.Sink.Takes out.old (image_bytes (units self.now)) out.new }
+        ensures { S.Sink.Takes out.old (image_bytes (parts self.now)) out.new }
     {
         u8::append_section(&self.names, out);
         self.codes.append_exactly(out);
         self.entries.append_dealt(out);
         self.references.append_dealt(out);
+    }
+}
+
+impl Image {
+    // How many bytes the image has.
+    pub fn size(&self) -> usize
+        ensures { result ≡ length (image_bytes (units self.now)) }
+    {
+        let count = self.sections.names.len();
+        6 + 10 * count
+            + self.sections.codes.total()
+            + 3 * self.sections.entries.total()
+            + 3 * self.sections.references.total()
     }
 
     // Writes the image to the start of a buffer and answers its length; bytes behind stay.
@@ -52,7 +55,7 @@ impl Image {
             bytes: buffer,
             at: 0,
         };
-        self.append_sections(&mut out);
+        self.sections.append_sections(&mut out);
         Ok(out.at)
     }
 }

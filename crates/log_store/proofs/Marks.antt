@@ -1,6 +1,5 @@
 -- What a mark, a slide and a new record at the end leave of a log.
-use Rattle.std.proofs.Common.{◌≡◌, ℕ, zero, suc, ◌+◌, ◌*◌, ◌<◌, ◌≤◌, Bool, true, false, cond, not, ◌&&◌, ◌||◌, eqb, ltb, leb, List, [], ◌∷◌, ◌++◌, length, get_or, take, set, is_some, Some, None, Option, sym, refl, ap, ◌∙◌, subst, arith, length-append, length-set}
-use Rattle.std.specs.Option.{option_map}
+use Rattle.std.proofs.Common.{◌≡◌, ℕ, zero, suc, ◌+◌, ◌*◌, ◌<◌, ◌≤◌, Bool, true, false, cond, not, ◌&&◌, ◌||◌, eqb, ltb, leb, List, [], ◌∷◌, ◌++◌, length, get_or, take, set, is_some, sym, refl, ap, ◌∙◌, subst, arith, length-append, length-set}
 use Rattle.std.proofs.lemmas.Bool.{true≢false, and_parts, and_from, eq-eqb, le-leb, lt-leb, or_parts, leb-false, leb-true, ltb-false, le-ltb, lt-ltb}
 use Rattle.std.proofs.lemmas.List.{append-nil, get_or-set_other, set_at, length-take-le, take_all}
 use Rattle.std.proofs.lemmas.List.Edits.{take-paste}
@@ -221,9 +220,3 @@ put_goes ps after q bs rows u h short e =
     let gone : has (without q ps) q ≡ false = ap is_some (lookup_without_same q ps u) in
     let at_end : SamePairs (without q ps ++ pair q bs ∷ []) (pair q bs ∷ without q ps) = subst (λ (x : List Pair). SamePairs (without q ps ++ pair q bs ∷ []) (pair q bs ∷ x)) (append-nil (without q ps)) (moved (without q ps) [] q bs gone) in
     record { outcome = simp (small, free); pairs = subst (λ (x : List Pair). SamePairs x (pair q bs ∷ without q ps)) (sym e) at_end }
-
-pub none_by : {X : Type 0} (o : Option X) (r : Bool) (g : X → List ℕ) (l : Option (List ℕ)) → is_some o ≡ not r → l ≡ option_map g o → r ≡ not (is_some l)
-none_by None true g l h e = ap (λ (x : Option (List ℕ)). not (is_some x)) (sym e)
-none_by None false g l h e = absurd (true≢false (sym h))
-none_by (Some x) true g l h e = absurd (true≢false h)
-none_by (Some x) false g l h e = ap (λ (x : Option (List ℕ)). not (is_some x)) (sym e)

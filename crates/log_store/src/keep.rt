@@ -1,5 +1,5 @@
 // The log store keeps the contract of every store, and says which records lie in the area after each call.
-ghost use Rattle.std.specs.Prelude.{◌≡◌, ℕ, List, [], length, if◌then◌else◌, vec_len, nat_eq};
+ghost use Rattle.std.specs.Prelude.{◌≡◌, length, if◌then◌else◌, vec_len, nat_eq};
 ghost use Rattle.names.specs.Refusals.{answer};
 ghost use Rattle.store.specs.Says.{PutSays, GetSays, DropSays, Within};
 ghost use Rattle.area.specs.Layout.{longest};

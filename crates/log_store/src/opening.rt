@@ -15,12 +15,7 @@ impl LogStore {
         ensures none { records_of result ≡ [] }
     {
         let rows = rows(area.len());
-        LogStore {
-            area,
-            rows,
-            end: 0,
-            count: 0,
-        }
+        LogStore { area, rows, end: 0 }
     }
 
     // The bytes of the area.
@@ -46,7 +41,6 @@ impl LogStore {
             area,
             rows: _,
             end: _,
-            count: _,
         } = self;
         area
     }

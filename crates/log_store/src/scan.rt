@@ -1,5 +1,5 @@
 // Walking through the records of a log.
-ghost use Rattle.std.specs.Prelude.{◌≡◌, false, MatchOption};
+ghost use Rattle.std.specs.Prelude.{◌≡◌, false, length, MatchOption};
 ghost use Rattle.std.specs.Option.{option_map};
 ghost use Rattle.store.specs.Pairs.{has, lookup};
 ghost use Rattle.area.specs.Layout.{content};
@@ -8,7 +8,7 @@ ghost use Rattle.log_store.specs.Kept.{records_of, pairs_of, records_left};
 
 use crate::logs::LogStore;
 use crate::records::Records;
-use area::record_at::is_held;
+use area::record_at::{is_held, is_live};
 use names::Name;
 
 impl LogStore {
@@ -20,6 +20,13 @@ impl LogStore {
             log: &self.area[..self.end],
             at: 0,
         }
+    }
+
+    // How many records are live.
+    pub(crate) fn live(&self) -> usize
+        ensures { result ≡ length (pairs_of self.now) }
+    {
+        self.records().filter(|r| is_live(r.1)).count()
     }
 
     // The live record of a name, with the place where it begins.

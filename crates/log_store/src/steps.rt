@@ -1,5 +1,5 @@
 // The three steps of a put: the old record marked dead, room made, the new record appended.
-ghost use Rattle.std.specs.Prelude.{◌≡◌, ℕ, ◌+◌, ◌<◌, ◌≤◌, true, false, not, ◌&&◌, List, [], ◌∷◌, ◌++◌, length, if◌then◌else◌, vec_len, nat_eq, nat_le};
+ghost use Rattle.std.specs.Prelude.{◌≡◌, ◌+◌, ◌<◌, ◌≤◌, true, false, not, ◌&&◌, [], ◌∷◌, ◌++◌, length, if◌then◌else◌, vec_len, nat_eq, nat_le};
 ghost use Rattle.names.specs.Refusals.{answer};
 ghost use Rattle.store.specs.Pairs.{pair, has, without};
 ghost use Rattle.area.specs.Layout.{slot_size, laid, lay_number};
@@ -17,10 +17,10 @@ impl LogStore {
     pub(crate) fn is_full_for(&self, name: Name) -> bool
         ensures { result ≡ (nat_le self.now.rows (length (pairs_of self.now)) && not (has (pairs_of self.now) name.bytes)) }
     {
-        self.count >= self.rows && self.find(name).is_none()
+        self.live() >= self.rows && self.find(name).is_none()
     }
 
-    // Marks the live record of the name dead; says whether there was one.
+    // Marks the live record of the name dead; says whether there was one, for a drop's answer.
     pub(crate) fn end_pair(&mut self, name: Name) -> bool
         ensures found { result ≡ has (pairs_of self.old) name.bytes }
         ensures marks { records_of self.new ≡ marked name.bytes (records_of self.old) }
@@ -32,7 +32,6 @@ impl LogStore {
             return false;
         };
         bury(&mut self.area, at);
-        self.count -= 1;
         true
     }
 
@@ -61,7 +60,6 @@ impl LogStore {
     {
         write(&mut self.area, self.end, name, content)?;
         self.end += HEADER + content.len();
-        self.count += 1;
         Ok(())
     }
 }

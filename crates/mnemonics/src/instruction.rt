@@ -1,5 +1,5 @@
 // One instruction of formula code.
-#[derive(Clone, Copy)]
+#[derive(Clone, Copy, Debug, PartialEq, Eq)]
 pub enum Instruction {
     // a value onto the stack
     Push(i32),

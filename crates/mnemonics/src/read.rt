@@ -11,10 +11,7 @@ pub fn next(input: &mut Input<'_>) -> Result<Instruction, Malformed>
     ensures { read_as result (left input.new) ≡ instruction (left input.old) }
 {
     match u8::read(input)? {
-        0x01 => {
-            let value = i32::read(input)?;
-            Ok(Instruction::Push(value))
-        }
+        0x01 => Ok(Instruction::Push(i32::read(input)?)),
         0x02 => Ok(Instruction::Argument),
         0x10 => Ok(Instruction::Add),
         0x11 => Ok(Instruction::Subtract),
@@ -22,10 +19,7 @@ pub fn next(input: &mut Input<'_>) -> Result<Instruction, Malformed>
         0x13 => Ok(Instruction::Divide),
         0x14 => Ok(Instruction::Less),
         0x15 => Ok(Instruction::Equal),
-        0x30 => {
-            let number = u8::read(input)?;
-            Ok(Instruction::Call(number))
-        }
+        0x30 => Ok(Instruction::Call(u8::read(input)?)),
         0x3F => Ok(Instruction::Return),
         _ => Err(Malformed),
     }

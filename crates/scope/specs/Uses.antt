@@ -1,5 +1,7 @@
 -- Names that are used.
-use Rattle.std.specs.Prelude.{ℕ, ◌-◌, Bool, true, false, cond, ◌&&◌, ◌||◌, List, [], ◌∷◌, length, ℤ, is_some, Some, None, Option, ◌==◌, nat_le, nat_lt, slice_index_or}
+use Rattle.std.specs.Prelude.{ℕ, ◌-◌, Bool, true, cond, not, ◌&&◌, ◌||◌, List, [], length, ℤ, is_some, Some, None, Option, ◌==◌, nat_le, nat_lt, slice_index_or}
+use Rattle.std.specs.List.{list_all, find}
+use Rattle.std.specs.Option.{option_map}
 use Rattle.std.specs.Int.{w32}
 use Rattle.std.proofs.Common.{of_z, to_z}
 use Rattle.std.specs.Str.{bytes_eq}
@@ -7,9 +9,10 @@ use Rattle.names.specs.declared.refusal.Fault.{Fault}
 use Rattle.product.specs.declared.row.Row.{Row}
 use Rattle.product.specs.Parts.{first_row}
 use Rattle.tokens.specs.declared.token.Token.{Token}
-use Rattle.tokens.specs.declared.token.Token.TheVariants.{Open, Close, Operator as Sign, Name as Named, Word, Number, NoForm, LineEnd}
-use Rattle.grammar.specs.declared.verdict.Declaration.{Declaration}
-use Rattle.grammar.specs.Line.{x_word, opens}
+use Rattle.tokens.specs.declared.token.Token.TheVariants.{Name as Named, Word}
+use Rattle.grammar.specs.declared.declaration.Declaration.{Declaration}
+use Rattle.grammar.specs.declared.flaw.Flaw.TheVariants.{IllUsed}
+use Rattle.grammar.specs.Line.{x_word, placed}
 use Rattle.grammar.specs.Walk.{body}
 use Rattle.scope.specs.Names.{is_constant, entry_of, at_line}
 
@@ -37,21 +40,14 @@ outside imports = record { constant = λ p n. as_constant (row_at imports p n); 
 
 -- a name is of use where it stands: a called one is a function, any other a constant or x
 abbrev pub useful : List Declaration → Outside → Bool → Token → Bool
-useful ds o called Open = true
-useful ds o called Close = true
-useful ds o called (Sign s) = true
-useful ds o called (Named n) = cond called (is_some (entry_of n.bytes 0 ds)) (bytes_eq n.bytes x_word || is_constant n.bytes ds)
+useful ds o called (Named n) = cond called (is_some (entry_of n.bytes ds)) (bytes_eq n.bytes x_word || is_constant n.bytes ds)
 useful ds o called (Word p n) = cond called (is_some (o.function p n.bytes)) (is_some (o.constant p n.bytes))
-useful ds o called (Number v) = true
-useful ds o called NoForm = true
-useful ds o called LineEnd = true
+useful ds o called _ = true
 
--- every name is of use; what stands behind an opening parenthesis is called
-abbrev pub all_useful : List Declaration → Outside → Bool → List Token → Bool
-all_useful ds o called [] = true
-all_useful ds o called (t ∷ ts) = useful ds o called t && all_useful ds o (opens t) ts
+-- every name is of use
+abbrev pub all_useful : List Declaration → Outside → List Token → Bool
+all_useful ds o ts = list_all (λ p. useful ds o p.0 p.1) (placed ts)
 
 -- the first declaration that uses a name that is unknown or of no use there
 abbrev pub misused : List Token → List Declaration → Outside → List Declaration → Option Fault
-misused all own o [] = None
-misused all own o (d ∷ ds) = cond (all_useful own o false (body all d)) (misused all own o ds) (Some (at_line 5 d))
+misused all own o ds = option_map (at_line IllUsed) (find (λ d. not (all_useful own o (body all d))) ds)

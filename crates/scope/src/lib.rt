@@ -4,8 +4,9 @@
 
 pub mod declared;
 pub mod imported;
+pub mod unit;
 pub mod used;
 
 pub use declared::{check_names, entry_of, is_constant};
 pub use imported::{constant_at, function_at};
-pub use used::check_uses;
+pub use unit::Unit;

@@ -1,71 +1,69 @@
 // Names that are used.
-ghost use Rattle.std.specs.Prelude.{◌≡◌, false, ◌||◌, map};
-ghost use Rattle.product.specs.Parts.{rows};
+ghost use Rattle.std.specs.Prelude.{◌≡◌, ◌||◌};
 ghost use Rattle.std.specs.Str.{bytes_eq};
+ghost use Rattle.std.specs.Result.{result_err};
 ghost use Rattle.grammar.specs.Line.{x_word};
 ghost use Rattle.scope.specs.Names.{is_constant};
-ghost use Rattle.scope.specs.Uses.{outside, useful, all_useful, misused};
+ghost use Rattle.scope.specs.Uses.{useful, all_useful, misused};
+ghost use Rattle.scope.specs.Sees.{sees};
 
 use crate::declared::{entry_of, is_constant};
 use crate::imported::{constant_at, function_at};
-use grammar::{Declaration, expression_of, is_open, spells};
+use crate::unit::Unit;
+use grammar::{Flaw, X, expression_of, is_open, spells};
 use names::{Fault, Name};
-use product::Interface;
+use std::iter::once;
 use tokens::Token;
 
-fn is_value(own: &[Declaration], name: &Name) -> bool
-    ensures { result ≡ (bytes_eq name.now.bytes x_word || is_constant name.now.bytes own.now) }
-{
-    if spells(name, b"x\0\0\0\0\0\0\0") {
-        return true;
+impl<'a> Unit<'a> {
+    fn is_value(&self, name: &Name) -> bool
+        ensures { result ≡ (bytes_eq name.now.bytes x_word || is_constant name.now.bytes self.now.own.now) }
+    {
+        spells(name, &X) || is_constant(name, self.own)
     }
-    is_constant(name, own)
-}
 
-fn is_useful(own: &[Declaration], imports: &[Interface], called: bool, token: &Token) -> bool
-    ensures { result ≡ useful own.now (outside (map rows imports.now)) called token.now }
-{
-    match token {
-        Token::Name(name) => {
-            if called {
-                entry_of(name, own).is_some()
-            } else {
-                is_value(own, name)
+    fn is_useful(&self, called: bool, token: &Token) -> bool
+        ensures { result ≡ useful self.now.own.now (sees self.now) called token.now }
+    {
+        match token {
+            Token::Name(name) => {
+                if called {
+                    entry_of(name, self.own).is_some()
+                } else {
+                    self.is_value(name)
+                }
             }
-        }
-        Token::Word { position, name } => {
-            if called {
-                function_at(imports, *position, *name).is_some()
-            } else {
-                constant_at(imports, *position, *name).is_some()
+            Token::Word { position, name } => {
+                if called {
+                    function_at(self.imports, *position, *name).is_some()
+                } else {
+                    constant_at(self.imports, *position, *name).is_some()
+                }
             }
+            _ => true,
         }
-        _ => true,
     }
-}
 
-fn all_useful(own: &[Declaration], imports: &[Interface], tokens: &[Token]) -> bool
-    ensures { result ≡ all_useful own.now (outside (map rows imports.now)) false tokens.now }
-{
-    let mut called = false;
-    for t in tokens {
-        if !is_useful(own, imports, called, t) {
-            return false;
-        }
-        called = is_open(t);
+    fn all_useful(&self, tokens: &[Token]) -> bool
+        ensures { result ≡ all_useful self.now.own.now (sees self.now) tokens.now }
+    {
+        once(false)
+            .chain(tokens.iter().map(is_open))
+            .zip(tokens)
+            .all(|(called, token)| self.is_useful(called, token))
     }
-    true
-}
 
-// The first declaration that uses a name that is unknown or of no use there.
-pub fn check_uses(tokens: &[Token], own: &[Declaration], imports: &[Interface]) -> Option<Fault>
-    ensures { result ≡ misused tokens.now own.now (outside (map rows imports.now)) own.now }
-{
-    for d in own {
-        if !all_useful(own, imports, expression_of(tokens, d)) {
-            let line = d.line;
-            return Some(Fault { code: 5, line });
+    // Refuses the first declaration that uses a name that is unknown or of no use there.
+    pub fn check_uses(&self) -> Result<(), Fault>
+        ensures { result_err result ≡ misused self.now.tokens.now self.now.own.now (sees self.now) self.now.own.now }
+    {
+        let wrong = self
+            .own
+            .iter()
+            .find(|d| !self.all_useful(expression_of(self.tokens, d)));
+        match wrong {
+            Some(d) => Err(Flaw::IllUsed.at(d.line)),
+            None => Ok(()),
         }
     }
-    None
 }

@@ -1,5 +1,4 @@
 // The slot store keeps the contract of every store.
-ghost use Rattle.std.specs.Prelude.{◌≡◌};
 ghost use Rattle.area.specs.Layout.{longest};
 ghost use Rattle.slot.specs.Kept.{pairs_of};
 

@@ -3,7 +3,7 @@ ghost use Rattle.store.specs.Pairs.{once};
 ghost use Rattle.area.specs.Layout.{rows_of};
 ghost use Rattle.slot.specs.Slots.{slot_pairs};
 
-// An area of the caller's with its number of slots; no name lies in two of them.
+// An area of the caller's with its number of slots, which opening fixes; no name lies in two of them.
 #[derive(Drop)]
 pub struct SlotStore {
     pub(crate) area: Vec<u8>,

@@ -1,5 +1,5 @@
 // The trait of every store: what put, get and drop answer and leave, in terms of the pairs held.
-ghost use Rattle.std.specs.Prelude.{◌≡◌, ℕ, ◌≤◌, Bool, true, List, length};
+ghost use Rattle.std.specs.Prelude.{◌≡◌, ℕ, true, List, length};
 ghost use Rattle.names.specs.Refusals.{answer};
 ghost use Rattle.store.specs.Pairs.{Pair, once};
 ghost use Rattle.store.specs.Says.{PutSays, GetSays, DropSays, Within};
@@ -33,7 +33,7 @@ pub trait Store {
         ensures within { Within result (length buffer.old) }
         ensures rows { rows self.new ≡ rows self.old };
 
-    // The name has no record from now on; says whether it had one.
+    // The name has no record from now on; says whether it had one, as a set's `remove` does: that it had none is no refusal.
     fn drop(&mut self, name: Name) -> bool
         ensures says { DropSays (pairs self.old) (pairs self.new) name.bytes result }
         ensures rows { rows self.new ≡ rows self.old };

@@ -1,5 +1,5 @@
 -- The line reader's turns.
-use Rattle.std.proofs.Common.{◌≡◌, ℕ, ◌+◌, ◌<◌, ◌≤◌, Bool, true, false, cond, ◌||◌, eqb, List, [], ◌∷◌, ◌++◌, length, get_or, drop, IfSome, Some, None, Option, sym, ap, ◌∙◌, subst, arith, lit≤}
+use Rattle.std.proofs.Common.{◌≡◌, ℕ, ◌+◌, ◌<◌, ◌≤◌, Bool, true, false, cond, ◌||◌, eqb, List, [], ◌∷◌, ◌++◌, length, get_or, drop, Some, None, Option, sym, ap, ◌∙◌, subst, arith, lit≤}
 use Rattle.std.specs.Option.{option_to_list}
 use Rattle.std.proofs.lemmas.List.{append-nil, append_assoc, length-append, at_drop_more, at_drop_all}
 use Rattle.tokens.specs.declared.token.Token.{Token}
@@ -112,12 +112,3 @@ pub begun-next : (s : State) (i b : ℕ) → Begun i s → Begun (i + 1) (next s
 begun-next Between i b h = begun_cond (i + 1) (eqb b 59) (parting b) Comment Between (Inside i) tt tt (omega arith)
 begun-next (Inside s) i b h = begun_cond (i + 1) (eqb b 59) (parting b) Comment Between (Inside s) tt tt (omega arith)
 begun-next Comment i b h = begun-one (i + 1) (eqb b 10) Between Comment tt tt
-
-begun_some : (i s : ℕ) (a : Bool) → s ≤ i → IfSome (cond a (Some s) None) (λ start. start ≤ i)
-begun_some i s true h = h
-begun_some i s false h = tt
-
-pub begun-ended : (s : State) (i b : ℕ) → Begun i s → IfSome (ended s b) (λ start. start ≤ i)
-begun-ended Between i b h = tt
-begun-ended (Inside s) i b h = begun_some i s (eqb b 59 || parting b) h
-begun-ended Comment i b h = tt

@@ -1,49 +1,57 @@
 // The form of a word: an operator, a name, an import word or a literal, or none.
 ghost use Rattle.std.specs.Prelude.{◌≡◌, ◌≤◌, length};
-ghost use Rattle.tokens.specs.Forms.{sign, named, worded, decimal, magnitude, upward, downward, literal, form};
+ghost use Rattle.tokens.specs.Forms.{sign, operator as operator_of, name_of, named, worded, decimal, magnitude, upward, downward, literal, form};
 
 use crate::token::{Operator, Token};
 use names::Name;
 
-fn operator(b: u8) -> Option<Token>
+fn sign(b: u8) -> Option<Token>
     ensures { result ≡ sign b }
 {
-    match b {
-        b'+' => Some(Token::Operator(Operator::Add)),
-        b'-' => Some(Token::Operator(Operator::Subtract)),
-        b'*' => Some(Token::Operator(Operator::Multiply)),
-        b'/' => Some(Token::Operator(Operator::Divide)),
-        b'<' => Some(Token::Operator(Operator::Less)),
-        b'=' => Some(Token::Operator(Operator::Equal)),
+    let operator = match b {
+        b'+' => Operator::Add,
+        b'-' => Operator::Subtract,
+        b'*' => Operator::Multiply,
+        b'/' => Operator::Divide,
+        b'<' => Operator::Less,
+        b'=' => Operator::Equal,
+        _ => return None,
+    };
+    Some(Token::Operator(operator))
+}
+
+fn operator(text: &[u8]) -> Option<Token>
+    ensures { result ≡ operator_of text.now }
+{
+    match text {
+        [b] => sign(*b),
         _ => None,
     }
+}
+
+// The name that a text writes.
+fn name_of(text: &[u8]) -> Option<Name>
+    ensures { result ≡ name_of text.now }
+{
+    Name::from_text(text).ok()
 }
 
 fn name(text: &[u8]) -> Option<Token>
     ensures { result ≡ named text.now }
 {
-    match Name::from_text(text) {
-        Ok(name) => Some(Token::Name(name)),
-        Err(_) => None,
-    }
+    name_of(text).map(Token::Name)
 }
 
 fn import_word(text: &[u8]) -> Option<Token>
     ensures { result ≡ worded text.now }
 {
-    if text.len() < 2 {
-        return None;
-    }
-    let d = text[0];
-    if text[1] != b':' || d < b'1' || d > b'4' {
-        return None;
-    }
-    match Name::from_text(&text[2..]) {
-        Ok(name) => Some(Token::Word {
-            position: d - b'0',
-            name,
-        }),
-        Err(_) => None,
+    match text {
+        [d @ b'1'..=b'4', b':', rest @ ..] => {
+            let position = *d - b'0';
+            let name = name_of(rest)?;
+            Some(Token::Word { position, name })
+        }
+        _ => None,
     }
 }
 
@@ -54,11 +62,10 @@ fn decimal_of(digits: &[u8]) -> Option<u64>
 {
     let mut n: u64 = 0;
     for b in digits {
-        let d = *b;
-        if d < b'0' || d > b'9' {
+        if !b.is_ascii_digit() {
             return None;
         }
-        n = n * 10 + (d - b'0') as u64;
+        n = n * 10 + u64::from(*b - b'0');
     }
     Some(n)
 }
@@ -75,50 +82,34 @@ fn magnitude_of(digits: &[u8]) -> Option<u64>
 fn upward_of(n: Option<u64>) -> Option<Token>
     ensures { result ≡ upward n }
 {
-    let n = n?;
-    if n > 2147483647 {
-        return None;
-    }
-    Some(Token::Number(n as i32))
+    let value = i32::try_from(n?).ok()?;
+    Some(Token::Number(value))
 }
 
 fn downward_of(n: Option<u64>) -> Option<Token>
     ensures { result ≡ downward n }
 {
-    let n = n?;
-    if n > 2147483648 {
-        return None;
-    }
-    let v = -(n as i64);
-    Some(Token::Number(v as i32))
+    let n = i64::try_from(n?).ok()?;
+    let value = i32::try_from(-n).ok()?;
+    Some(Token::Number(value))
 }
 
 fn number(text: &[u8]) -> Option<Token>
     ensures { result ≡ literal text.now }
 {
-    if text.is_empty() {
-        return None;
+    match text {
+        [b'-', digits @ ..] => downward_of(magnitude_of(digits)),
+        _ => upward_of(magnitude_of(text)),
     }
-    if text[0] == b'-' {
-        return downward_of(magnitude_of(&text[1..]));
-    }
-    upward_of(magnitude_of(text))
 }
 
 // The token that a word is.
 pub fn form_of(text: &[u8]) -> Token
     ensures { result ≡ form text.now }
 {
-    if text.len() == 1 {
-        if let Some(token) = operator(text[0]) {
-            return token;
-        }
-    }
-    if let Some(token) = name(text) {
-        return token;
-    }
-    if let Some(token) = import_word(text) {
-        return token;
-    }
-    number(text).unwrap_or(Token::NoForm)
+    operator(text)
+        .or_else(|| name(text))
+        .or_else(|| import_word(text))
+        .or_else(|| number(text))
+        .unwrap_or(Token::NoForm)
 }

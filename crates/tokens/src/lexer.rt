@@ -1,6 +1,7 @@
 // The line reader.
 ghost use Rattle.std.specs.Prelude.{◌≡◌, ◌+◌, ◌≤◌, ◌++◌, length, IfSome, if◌then◌else◌, nat_le};
 ghost use Rattle.std.specs.Option.{option_to_list};
+ghost use Rattle.names.specs.Refusals.{answer};
 ghost use Rattle.bounded.specs.Held.{held};
 ghost use Rattle.tokens.specs.Stream.{single, next, ended, alone, word, stream};
 
@@ -8,6 +9,7 @@ use crate::form::form_of;
 use crate::state::{State, Step};
 use crate::token::Token;
 use bounded::Bounded;
+use names::Refusal;
 
 // The token that a parting byte is itself.
 fn single_of(b: u8) -> Option<Token>
@@ -42,54 +44,22 @@ impl Lexer {
         ensures ends { result.ended ≡ ended self.old.state b }
         ensures brings { result.own ≡ alone self.old.state b }
     {
-        match (&self.state, b) {
-            (State::Between, b';') => {
-                self.state = State::Comment;
-                Step {
-                    ended: None,
-                    own: None,
-                }
-            }
-            (State::Between, b'\n' | b' ' | b'(' | b')') => Step {
-                ended: None,
-                own: single_of(b),
-            },
-            (State::Between, _) => {
-                self.state = State::Inside(i);
-                Step {
-                    ended: None,
-                    own: None,
-                }
-            }
-            (State::Inside(start), b';') => {
-                let ended = Some(*start);
-                self.state = State::Comment;
-                Step { ended, own: None }
-            }
-            (State::Inside(start), b'\n' | b' ' | b'(' | b')') => {
-                let ended = Some(*start);
-                self.state = State::Between;
-                Step {
-                    ended,
-                    own: single_of(b),
-                }
-            }
-            (State::Inside(_), _) => Step {
-                ended: None,
-                own: None,
-            },
-            (State::Comment, b'\n') => {
-                self.state = State::Between;
-                Step {
-                    ended: None,
-                    own: Some(Token::LineEnd),
-                }
-            }
-            (State::Comment, _) => Step {
-                ended: None,
-                own: None,
-            },
-        }
+        let (state, ended, own) = match (self.state, b) {
+            (State::Between, b';') => (State::Comment, None, None),
+            (State::Between, b'\n' | b' ' | b'(' | b')') => (State::Between, None, single_of(b)),
+            (State::Between, _) => (State::Inside(i), None, None),
+            (State::Inside(start), b';') => (State::Comment, Some(start), None),
+            (State::Inside(start), b'\n' | b' ' | b'(' | b')') => (
+                State::Between,
+                Some(start),
+                single_of(b),
+            ),
+            (State::Inside(start), _) => (State::Inside(start), None, None),
+            (State::Comment, b'\n') => (State::Between, None, Some(Token::LineEnd)),
+            (State::Comment, _) => (State::Comment, None, None),
+        };
+        self.state = state;
+        Step { ended, own }
     }
 }
 
@@ -100,11 +70,8 @@ fn put_word(source: &[u8], i: usize, ended: Option<usize>, tokens: &mut Bounded<
     requires room { length (held tokens.old) + length (word source.now i ended) ≤ 513 }
     ensures { held tokens.new ≡ held tokens.old ++ word source.now i ended }
 {
-    match ended {
-        Some(start) => {
-            let _ = tokens.push(form_of(&source[start..i]));
-        }
-        None => {}
+    if let Some(start) = ended {
+        let _ = tokens.push(form_of(&source[start..i]));
     }
 }
 
@@ -113,21 +80,18 @@ fn put(own: Option<Token>, tokens: &mut Bounded<Token, 513>)
     requires { length (held tokens.old) + length (option_to_list own) ≤ 513 }
     ensures { held tokens.new ≡ held tokens.old ++ option_to_list own }
 {
-    match own {
-        Some(token) => {
-            let _ = tokens.push(token);
-        }
-        None => {}
+    if let Some(token) = own {
+        let _ = tokens.push(token);
     }
 }
 
 // Fills the list with the tokens of a source; a source over 512 bytes is not read.
-pub fn read(source: &[u8], tokens: &mut Bounded<Token, 513>) -> bool
-    ensures reads { result ≡ nat_le (length source.now) 512 }
-    ensures after { held tokens.new ≡ (if result then stream source.now else held tokens.old) }
+pub fn read(source: &[u8], tokens: &mut Bounded<Token, 513>) -> Result<(), Refusal>
+    ensures answered { answer result ≡ (if nat_le (length source.now) 512 then 0 else 12) }
+    ensures after { held tokens.new ≡ (if nat_le (length source.now) 512 then stream source.now else held tokens.old) }
 {
     if source.len() > 512 {
-        return false;
+        return Err(Refusal::SourceTooLong);
     }
     let mut lexer = Lexer::new();
     tokens.clear();
@@ -139,5 +103,5 @@ pub fn read(source: &[u8], tokens: &mut Bounded<Token, 513>) -> bool
     let last = lexer.step(source.len(), b'\n');
     put_word(source, source.len(), last.ended, tokens);
     put(last.own, tokens);
-    true
+    Ok(())
 }

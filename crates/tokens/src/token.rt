@@ -1,7 +1,7 @@
 use names::Name;
 
 // What may stand first in parentheses with two operands.
-#[derive(Clone, Copy)]
+#[derive(Clone, Copy, Debug, PartialEq, Eq)]
 pub enum Operator {
     Add,
     Subtract,
@@ -11,7 +11,7 @@ pub enum Operator {
     Equal,
 }
 
-#[derive(Clone, Copy)]
+#[derive(Clone, Copy, Debug, PartialEq, Eq)]
 pub enum Token {
     Open,
     Close,

@@ -1,8 +1,8 @@
 -- The house sameness is equality of names, kinds and values.
-use Rattle.std.proofs.Common.{◌≡◌, ℕ, ◌+◌, ◌<◌, ◌≤◌, Bool, true, false, ◌&&◌, eqb, List, [], ◌∷◌, map, length, get_or, drop, sym, refl, ap, ◌∙◌, arith, w32, of_z}
+use Rattle.std.proofs.Common.{◌≡◌, true, false, ◌&&◌, eqb, List, [], ◌∷◌, map, length, sym, refl, ap, ◌∙◌, arith, w32, of_z}
+use Rattle.std.specs.List.{list_all, zip}
 use Rattle.std.specs.Str.{bytes_eq}
 use Rattle.std.proofs.lemmas.Slice.Eq.{bytes_eq-Decides}
-use Rattle.std.proofs.lemmas.List.{drop_more, drop_all}
 use Rattle.std.proofs.lemmas.Bool.{false≢true, and_parts, and_from, and_right, eqb-true, eq-eqb}
 use Rattle.product.specs.declared.row.Row.{Row}
 use Rattle.translator.specs.House.{shape, like, house}
@@ -55,25 +55,9 @@ house_short [] (b ∷ bs) h = refl
 house_short (a ∷ more) [] h = refl
 house_short (a ∷ more) (b ∷ bs) h = and_right (like a b) (house more bs) (house_short more bs (λ e. h (omega arith)))
 
--- the turn of the loop at place i, where r is the answer for the two rows
-module _ (a b : List Row) (i : ℕ) (x y : Row) (r : Bool) (ha : i < length a) (hb : i < length b) (ax : x ≡ get_or a i x) (by : y ≡ get_or b i y)
-    (inv : house (drop i a) (drop i b) ≡ house a b) (says : r ≡ like x y) where
-  turn : (r && house (drop (i + 1) a) (drop (i + 1) b)) ≡ house a b
-  turn =
-      ap (λ t. t && house (drop (i + 1) a) (drop (i + 1) b)) says
-      ∙ (λ k. house (ax k ∷ drop (i + 1) a) (by k ∷ drop (i + 1) b))
-      ∙ sym (λ k. house (drop_more a i x ha k) (drop_more b i y hb k))
-      ∙ inv
-
-  pub goes : r ≡ true → house (drop (i + 1) a) (drop (i + 1) b) ≡ house a b
-  goes e = ap (λ t. t && house (drop (i + 1) a) (drop (i + 1) b)) (sym e) ∙ turn
-
-  pub stops : r ≡ false → false ≡ house a b
-  stops e = ap (λ t. t && house (drop (i + 1) a) (drop (i + 1) b)) (sym e) ∙ turn
-
-pub ends : (a b : List Row) (i : ℕ) → length a ≤ i → length b ≤ i → house (drop i a) (drop i b) ≡ house a b → true ≡ house a b
-ends a b i ha hb inv = sym (λ k. house (drop_all i a ha k) (drop_all i b hb k)) ∙ inv
-
--- names, kinds and values compared one after the other
-pub compared : (a b : Row) (r : Bool) → r ≡ bytes_eq a.name.bytes b.name.bytes → (r && (eqb a.kind b.kind && eqb (of_z w32 a.value) (of_z w32 b.value))) ≡ like a b
-compared a b r h = ap (λ t. t && (eqb a.kind b.kind && eqb (of_z w32 a.value) (of_z w32 b.value))) h
+-- of equally many rows
+pub house_zip : (a b : List Row) → length a ≡ length b → list_all (λ p. like p.0 p.1) (zip a b) ≡ house a b
+house_zip [] [] h = refl
+house_zip [] (b ∷ bs) h = absurd (omega arith)
+house_zip (a ∷ more) [] h = absurd (omega arith)
+house_zip (a ∷ more) (b ∷ bs) h = ap (λ t. like a b && t) (house_zip more bs (omega arith))

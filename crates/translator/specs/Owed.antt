@@ -14,6 +14,10 @@ shown (Err f) p = faulted f
 abbrev pub admitted : {X : Type 0} → List ℕ → List X → Bool
 admitted source imports = nat_le (length source) 512 && nat_le (length imports) 4
 
+-- the fault of a whole source
+abbrev pub too_much : Fault
+too_much = record { code = 9; line = 0 }
+
 -- two lists of interfaces of equal length, the same place by place
 abbrev pub Alike : (List Row → List Row → Bool) → List (List Row) → List (List Row) → Type 0
 Alike same [] [] = Unit {0}

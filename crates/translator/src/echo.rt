@@ -5,7 +5,7 @@ ghost use Rattle.translator.specs.Echoed.{echo, echoed, any, d_row};
 ghost use Rattle.translator.specs.EchoLaws.{any_itself, any_turned, any_chained, echo_agrees, echo_bounded};
 
 use crate::contract::Translator;
-use crate::limits::admits;
+use crate::limits::admit;
 use names::{Fault, Name};
 use product::{Interface, Product, Row};
 
@@ -27,14 +27,12 @@ impl Echo {
 fn d_row() -> Row
     ensures { result ≡ d_row }
 {
-    match Name::from_padded([100, 0, 0, 0, 0, 0, 0, 0]) {
-        Ok(name) => Row {
-            name,
-            kind: 2,
-            value: 0,
-            line: 1,
-        },
-        Err(_) => unreachable(),
+    let name = Name::from_padded(*b"d\0\0\0\0\0\0\0").unwrap();
+    Row {
+        name,
+        kind: 2,
+        value: 0,
+        line: 1,
     }
 }
 
@@ -43,9 +41,8 @@ fn fill(source: &[u8], out: &mut Product)
     ensures { parts out.new ≡ echoed source.now }
 {
     out.clear();
-    let front = source.len().min(8);
     let _ = out.interface.push(d_row());
-    let _ = out.code.extend(&source[0..front]);
+    let _ = out.code.extend(&source[..source.len().min(8)]);
     let _ = out.code.push(0x3F);
     let _ = out.entries.push(0);
 }
@@ -74,9 +71,7 @@ impl Translator for Echo {
         out: &mut Product,
     ) -> Result<(), Fault> {
         self.count = self.count.wrapping_add(1);
-        if !admits(source, imports) {
-            return Err(Fault { code: 9, line: 0 });
-        }
+        admit(source, imports)?;
         fill(source, out);
         Ok(())
     }
@@ -86,7 +81,6 @@ impl Translator for Echo {
     }
 
     fn count(&self) -> u64 {
-        let Echo { count } = self;
-        *count
+        self.count
     }
 }

@@ -11,4 +11,4 @@ pub mod limits;
 pub use contract::Translator;
 pub use echo::Echo;
 pub use house::same_rows;
-pub use limits::admits;
+pub use limits::{admit, admits};

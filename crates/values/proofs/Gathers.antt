@@ -1,8 +1,8 @@
 -- A loop over a list that gathers F of it behind what is held.
-use Rattle.std.proofs.Common.{◌≡◌, ℕ, ◌+◌, ◌<◌, ◌≤◌, Bool, cond, ltb, List, [], ◌∷◌, ◌++◌, length, get_or, drop, sym, ap, ◌∙◌}
-use Rattle.std.proofs.lemmas.List.{append-nil, append_assoc}
+use Rattle.std.proofs.Common.{◌≡◌, ℕ, ◌+◌, ◌<◌, Bool, cond, ltb, List, [], ◌∷◌, ◌++◌, length, get_or, drop, sym, ap, ◌∙◌}
+use Rattle.std.proofs.lemmas.List.{append_assoc}
 use Rattle.std.proofs.lemmas.Bool.{lt-ltb}
-use Rattle.grammar.proofs.Turns.{turn, end}
+use Rattle.grammar.proofs.Turns.{turn}
 
 module _ {X Y : Type 0} (F : List X → List Y) (xs : List X) (i : ℕ) (h r : List Y) (inv : h ++ F (drop i xs) ≡ r) where
   -- G says what is still to gather behind the element
@@ -10,9 +10,6 @@ module _ {X Y : Type 0} (F : List X → List Y) (xs : List X) (i : ℕ) (h r : L
   gathers G x ys more l at step e =
       ap (λ m. m ++ G (drop (i + 1) xs)) e ∙ append_assoc h ys (G (drop (i + 1) xs)) ∙ ap (λ m. h ++ m) (sym step)
       ∙ turn (λ zs. h ++ F zs) xs i r inv x l at
-
-  pub gathered : length xs ≤ i → F [] ≡ [] → h ≡ r
-  gathered l e = sym (append-nil h) ∙ ap (λ m. h ++ m) (sym e) ∙ end (λ zs. h ++ F zs) xs i r inv l
 
 -- a push for which there is room
 pub pushed : {X : Type 0} (h more : List X) (x : X) (n : ℕ) (r : Bool) → length h < n → r ≡ ltb (length h) n → more ≡ cond r (h ++ x ∷ []) h → more ≡ h ++ x ∷ []

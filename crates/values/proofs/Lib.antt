@@ -1,4 +1,3 @@
 pub mod Gathers
 pub mod Placed
 pub mod Settles
-pub mod Wide

@@ -1,27 +1,16 @@
 -- Constants by their places, and the order of the places.
-use Rattle.std.proofs.Common.{◌≡◌, ℕ, zero, suc, ◌+◌, ◌<◌, ◌≤◌, Bool, true, false, cond, List, [], ◌∷◌, ◌++◌, length, get_or, drop, ℤ, Some, None, Ok, Option, Result, Ordering, unwrap_or, sym, refl, ap, ◌∙◌, arith}
+use Rattle.std.proofs.Common.{◌≡◌, ℕ, zero, suc, ◌+◌, ◌<◌, ◌≤◌, List, [], ◌∷◌, ◌++◌, length, get_or, drop, ℤ, Some, None, Ok, Option, Result, Ordering, unwrap_or, sym, ap, ◌∙◌, arith, slice_get}
 use Rattle.std.proofs.lemmas.List.{length-append, at_drop_more}
 use Rattle.order.specs.declared.Need.{Need}
 use Rattle.order.specs.Dependency.{all as in_order, stuck, next, left, placing, ordered}
 use Rattle.tokens.specs.declared.token.Token.{Token}
 use Rattle.names.specs.declared.refusal.Fault.{Fault}
 use Rattle.grammar.specs.Walk.{onward}
-use Rattle.grammar.specs.declared.verdict.Declaration.{Declaration}
+use Rattle.grammar.specs.declared.declaration.Declaration.{Declaration}
 use Rattle.scope.specs.Uses.{Outside}
 use Rattle.values.specs.declared.known.Known.{Known}
 use Rattle.values.specs.Evaluation.{value, learnt}
-use Rattle.values.specs.Needed.{constants, lines}
-use Rattle.values.specs.Solved.{nth, behind, valued}
-
-pub nth_some : (ds : List Declaration) (i : ℕ) (x : Declaration) → i < length ds → x ≡ get_or ds i x → Some x ≡ nth ds i
-nth_some [] i x h e = absurd (omega arith)
-nth_some (d ∷ ds) zero x h e = ap Some e
-nth_some (d ∷ ds) (suc i) x h e = nth_some ds i x (omega arith) e
-
-pub nth_none : (ds : List Declaration) (i : ℕ) → length ds ≤ i → None ≡ nth ds i
-nth_none [] i h = refl
-nth_none (d ∷ ds) zero h = absurd (omega arith)
-nth_none (d ∷ ds) (suc i) h = nth_none ds i (omega arith)
+use Rattle.values.specs.Solved.{behind, valued}
 
 learnt_few : (ks more : List Known) (d : Declaration) (v : Option ℤ) → Ok more ≡ learnt ks d v → length more ≤ length ks + 1
 learnt_few ks more d None e = let z : ◌≡◌ {A = ℕ} 0 1 = cc in omega arith
@@ -33,17 +22,6 @@ learnt_few ks more d (Some v) e =
 pub behind_few : (all : List Token) (o : Outside) (ks more : List Known) (d : Option Declaration) → Ok more ≡ behind all o ks d → length more ≤ length ks + 1
 behind_few all o ks more None e = let k : more ≡ ks = cc in omega (arith, ap length k)
 behind_few all o ks more (Some d) e = learnt_few ks more d (value all o ks d) e
-
-pub constants_few : (ds : List Declaration) → length (constants ds) ≤ length ds
-constants_few [] = omega arith
-constants_few (d ∷ ds) = by d.function (constants_few ds) where
-  by : (f : Bool) → length (constants ds) ≤ length ds → length (cond f (constants ds) (d ∷ constants ds)) ≤ suc (length ds)
-  by true h = omega arith
-  by false h = omega arith
-
-pub lines_long : (ds : List Declaration) → length (lines ds) ≡ length ds
-lines_long [] = refl
-lines_long (d ∷ ds) = ap suc (lines_long ds)
 
 -- an order has as many places as there are items
 module _ {K : Type 0} (cmp : K → K → Ordering) (keys : List K) (needs : List (Need K)) where
@@ -61,5 +39,5 @@ module _ {K : Type 0} (cmp : K → K → Ordering) (keys : List K) (needs : List
 
 -- the turn at a place, where r is what was learnt there
 pub onto : (all : List Token) (o : Outside) (cs : List Declaration) (ks : List Known) (ps : List ℕ) (i : ℕ) (r : Result (List Known) Fault) → valued all o cs ks (drop i ps) ≡ r → i < length ps
-    → (m : Result (List Known) Fault) → m ≡ behind all o ks (nth cs (get_or ps i 0)) → onward m (λ more. valued all o cs more (drop (i + 1) ps)) ≡ r
+    → (m : Result (List Known) Fault) → m ≡ behind all o ks (slice_get cs (get_or ps i 0)) → onward m (λ more. valued all o cs more (drop (i + 1) ps)) ≡ r
 onto all o cs ks ps i r inv h m e = ap (λ n. onward n (λ more. valued all o cs more (drop (i + 1) ps))) e ∙ sym (at_drop_more (valued all o cs ks) ps i 0 h) ∙ inv

@@ -1,5 +1,4 @@
 pub mod Arithmetic
 pub mod Evaluation
 pub mod Needed
-pub mod Seen
 pub mod Solved

@@ -1,114 +1,81 @@
 // The value of a constant's expression.
-ghost use Rattle.std.specs.Prelude.{◌≡◌, ◌<◌, map, length, ℤ};
-ghost use Rattle.product.specs.Parts.{rows};
-ghost use Rattle.grammar.specs.Expression.{Meaning, closing, within, level, expression};
+ghost use Rattle.std.specs.Prelude.{◌≡◌, ◌<◌, map, length};
 ghost use Rattle.bounded.specs.Held.{held};
+ghost use Rattle.product.specs.Parts.{rows};
 ghost use Rattle.grammar.specs.Walk.{told};
+ghost use Rattle.scope.specs.Sees.{sees};
 ghost use Rattle.scope.specs.Uses.{outside};
-ghost use Rattle.values.specs.Evaluation.{known as known_in, evaluating, value, learnt};
-ghost use Rattle.values.specs.Seen.{seen};
+ghost use Rattle.values.specs.Evaluation.{known as known_in, evaluating, value as value_in, learnt};
 
-use crate::arithmetic::{in_range, operate};
+use crate::arithmetic::operate;
 use crate::known::Known;
 use bounded::Bounded;
-use grammar::{Declaration, expression_of, spells};
+use grammar::{Declaration, Flaw, Sense, descend, expression_of};
 use names::{Fault, Name};
 use product::Interface;
-use scope::constant_at;
-use tokens::Token;
+use scope::{Unit, constant_at};
+use tokens::Operator;
 
 // The value of a known constant.
 pub fn known_value(name: &Name, known: &[Known]) -> Option<i32>
     ensures { result ≡ known_in name.now.bytes known.now }
 {
-    let bytes = name.bytes();
-    for k in known {
-        if spells(&k.name, &bytes) {
-            return Some(k.value);
-        }
-    }
-    None
+    known.iter().find(|k| k.name == *name).map(|k| k.value)
 }
 
-// A value with what stands behind the closing parenthesis.
-fn closed_with<'a>(value: Option<i32>, tokens: &'a [Token]) -> Option<(i32, &'a [Token])>
-    ensures { (m : Meaning ℤ) → seen result ≡ closing m value tokens.now }
-{
-    let (token, rest) = tokens.split_first()?;
-    match token {
-        Token::Close => Some((value?, rest)),
-        _ => None,
-    }
+// What a constant's expression comes to, where some constants are known.
+#[derive(Clone, Copy)]
+pub struct Evaluating<'a> {
+    pub known: &'a [Known],
+    pub imports: &'a [Interface],
 }
 
-// The value of the expression at the front, of fewer than so many levels, and what stands behind it.
-#[cycle(evaluate_evaluate_level_evaluate_within)]
-pub fn evaluate<'a>(
-    known: &[Known],
-    imports: &[Interface],
-    tokens: &'a [Token],
-    levels: u8,
-) -> Option<(i32, &'a [Token])>
-    ensures { seen result ≡ expression (evaluating known.now (outside (map rows imports.now))) levels tokens.now }
-{
-    if levels == 0 {
-        return None;
-    }
-    evaluate_level(known, imports, tokens, levels - 1)
-}
+impl<'a> Sense for Evaluating<'a> {
+    type Value = i32;
 
-// The same, with so many levels inside.
-#[cycle(evaluate_evaluate_level_evaluate_within)]
-fn evaluate_level<'a>(
-    known: &[Known],
-    imports: &[Interface],
-    tokens: &'a [Token],
-    levels: u8,
-) -> Option<(i32, &'a [Token])>
-    ensures { seen result ≡ level (evaluating known.now (outside (map rows imports.now))) (expression (evaluating known.now (outside (map rows imports.now))) levels) tokens.now }
-{
-    let (token, rest) = tokens.split_first()?;
-    match token {
-        Token::Number(value) => Some((*value, rest)),
-        Token::Name(name) => Some((known_value(name, known)?, rest)),
-        Token::Word { position, name } => Some((constant_at(imports, *position, *name)?, rest)),
-        Token::Open => evaluate_within(known, imports, rest, levels),
-        _ => None,
-    }
-}
+    type State = ();
 
-// The same behind an open parenthesis.
-#[cycle(evaluate_evaluate_level_evaluate_within)]
-fn evaluate_within<'a>(
-    known: &[Known],
-    imports: &[Interface],
-    tokens: &'a [Token],
-    levels: u8,
-) -> Option<(i32, &'a [Token])>
-    ensures { seen result ≡ within (evaluating known.now (outside (map rows imports.now))) (expression (evaluating known.now (outside (map rows imports.now))) levels) tokens.now }
-{
-    let (token, rest) = tokens.split_first()?;
-    match token {
-        Token::Operator(operator) => {
-            let (a, second) = evaluate(known, imports, rest, levels)?;
-            let (b, end) = evaluate(known, imports, second, levels)?;
-            closed_with(operate(*operator, a, b), end)
-        }
-        _ => None,
+    ghost Seen = { Unit {0} };
+
+    ghost view = { λ s. s };
+
+    ghost means = { λ e. evaluating e.known.now (outside (map rows e.imports.now)) };
+
+    fn number(&self, value: i32, _state: &mut ()) -> Option<i32> {
+        Some(value)
+    }
+
+    fn named(&self, name: &Name, _state: &mut ()) -> Option<i32> {
+        known_value(name, self.known)
+    }
+
+    fn word(&self, position: u8, name: &Name, _state: &mut ()) -> Option<i32> {
+        constant_at(self.imports, position, *name)
+    }
+
+    fn operation(&self, operator: Operator, a: i32, b: i32, _state: &mut ()) -> Option<i32> {
+        operate(operator, a, b)
+    }
+
+    fn call(&self, _name: &Name, _a: i32, _state: &mut ()) -> Option<i32> {
+        None
+    }
+
+    fn call_word(&self, _position: u8, _name: &Name, _a: i32, _state: &mut ()) -> Option<i32> {
+        None
     }
 }
 
 // The value of a constant.
-pub(crate) fn value_of(
-    tokens: &[Token],
-    imports: &[Interface],
-    known: &[Known],
-    d: &Declaration,
-) -> Option<i32>
-    ensures { result ≡ value tokens.now (outside (map rows imports.now)) known.now d.now }
+pub(crate) fn value_of(unit: &Unit<'_>, known: &[Known], d: &Declaration) -> Option<i32>
+    ensures { result ≡ value_in unit.now.tokens.now (sees unit.now) known.now d.now }
 {
-    let (value, _) = evaluate(known, imports, expression_of(tokens, d), 9)?;
-    in_range(value as i64)
+    let sense = Evaluating {
+        known,
+        imports: unit.imports,
+    };
+    let (value, _) = descend(&sense, expression_of(unit.tokens, d), 9, &mut ())?;
+    Some(value)
 }
 
 // One constant more is known, or its line is at fault.
@@ -120,15 +87,8 @@ pub(crate) fn learn(
     requires { length (held known.old) < 12 }
     ensures { told result (held known.new) ≡ learnt (held known.old) d.now value }
 {
-    match value {
-        Some(value) => {
-            let name = d.name;
-            let _ = known.push(Known { name, value });
-            Ok(())
-        }
-        None => {
-            let line = d.line;
-            Err(Fault { code: 7, line })
-        }
-    }
+    let name = d.name;
+    let value = value.ok_or(Flaw::NoValue.at(d.line))?;
+    let _ = known.push(Known { name, value });
+    Ok(())
 }

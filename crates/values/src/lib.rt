@@ -8,7 +8,7 @@ pub mod known;
 mod needed;
 pub mod solver;
 
-pub use arithmetic::{in_range, operate};
-pub use evaluation::{evaluate, known_value};
+pub use arithmetic::operate;
+pub use evaluation::{Evaluating, known_value};
 pub use known::Known;
 pub use solver::Solver;

@@ -4,7 +4,7 @@ ghost use Rattle.bounded.specs.Held.{held};
 ghost use Rattle.values.specs.Needed.{constants, lines, names, mentions, needs_of, needs};
 
 use bounded::Bounded;
-use grammar::{Declaration, expression_of, spells};
+use grammar::{Declaration, Kind, expression_of};
 use names::Name;
 use order::Need;
 use tokens::Token;
@@ -16,7 +16,7 @@ pub fn keep_constants(declarations: &[Declaration], out: &mut Bounded<Declaratio
 {
     out.clear();
     for d in declarations {
-        if !d.function {
+        if d.kind == Kind::Constant {
             let _ = out.push(*d);
         }
     }
@@ -37,7 +37,7 @@ fn is_named(name: &Name, token: &Token) -> bool
     ensures { result ≡ names name.now.bytes token.now }
 {
     match token {
-        Token::Name(n) => spells(n, &name.bytes()),
+        Token::Name(n) => n == name,
         _ => false,
     }
 }
@@ -45,12 +45,7 @@ fn is_named(name: &Name, token: &Token) -> bool
 fn is_mentioned(name: &Name, tokens: &[Token]) -> bool
     ensures { result ≡ mentions name.now.bytes tokens.now }
 {
-    for t in tokens {
-        if is_named(name, t) {
-            return true;
-        }
-    }
-    false
+    tokens.iter().any(|t| is_named(name, t))
 }
 
 // Adds the needs of the constant at place i.

@@ -1,90 +1,81 @@
 // The constants of a unit, in dependency order.
-ghost use Rattle.std.specs.Prelude.{◌≡◌, ◌<◌, ◌≤◌, [], map, length};
+ghost use Rattle.std.specs.Prelude.{◌≡◌, ◌<◌, ◌≤◌, [], length, slice_get};
 ghost use Rattle.bounded.specs.Held.{held};
-ghost use Rattle.product.specs.Parts.{rows};
 ghost use Rattle.order.specs.Dependency.{ordered};
 ghost use Rattle.grammar.specs.Walk.{told};
-ghost use Rattle.scope.specs.Uses.{outside};
-ghost use Rattle.values.specs.Solved.{nth, behind, valued, circle, settled, solved};
+ghost use Rattle.scope.specs.Sees.{sees};
+ghost use Rattle.values.specs.Solved.{behind, valued, circle, unordered as fault_of, settled, solved};
 ghost use Rattle.std.specs.Ordering.{nat_cmp};
 
 use crate::evaluation::{learn, value_of};
 use crate::known::Known;
 use crate::needed::{keep_constants, keep_lines, keep_needs};
 use bounded::Bounded;
-use grammar::Declaration;
+use grammar::{Declaration, Flaw};
 use names::Fault;
 use order::{Need, Unordered, order};
-use product::Interface;
+use scope::Unit;
 use std::alloc::{AllocError, Global};
-use tokens::Token;
 
 fn declaration_at(declarations: &[Declaration], place: usize) -> Option<Declaration>
-    ensures { result ≡ nth declarations.now place }
+    ensures { result ≡ slice_get declarations.now place }
 {
-    if place < declarations.len() {
-        return Some(declarations[place]);
-    }
-    None
+    declarations.get(place).copied()
 }
 
 // Learns the value of the constant at a place.
 fn value_next(
-    tokens: &[Token],
-    imports: &[Interface],
+    unit: &Unit<'_>,
     constants: &[Declaration],
     place: usize,
     known: &mut Bounded<Known, 12>,
 ) -> Result<(), Fault>
     requires { length (held known.old) < 12 }
-    ensures { told result (held known.new) ≡ behind tokens.now (outside (map rows imports.now)) (held known.old) (nth constants.now place) }
+    ensures { told result (held known.new) ≡ behind unit.now.tokens.now (sees unit.now) (held known.old) (slice_get constants.now place) }
 {
     match declaration_at(constants, place) {
-        Some(d) => {
-            let value = value_of(tokens, imports, known.as_slice(), &d);
-            learn(&d, value, known)
-        }
+        Some(d) => learn(&d, value_of(unit, known.as_slice(), &d), known),
         None => Ok(()),
     }
 }
 
 // Learns the values of the constants at these places, one after the other.
 fn value_all(
-    tokens: &[Token],
-    imports: &[Interface],
+    unit: &Unit<'_>,
     constants: &[Declaration],
     places: &[usize],
     known: &mut Bounded<Known, 12>,
 ) -> Result<(), Fault>
     requires { length places.now ≤ 12 }
-    ensures { told result (held known.new) ≡ valued tokens.now (outside (map rows imports.now)) constants.now [] places.now }
+    ensures { told result (held known.new) ≡ valued unit.now.tokens.now (sees unit.now) constants.now [] places.now }
 {
     known.clear();
     for p in places {
-        if let Err(fault) = value_next(tokens, imports, constants, *p, known) {
-            return Err(fault);
-        }
+        value_next(unit, constants, *p, known)?;
     }
     Ok(())
 }
 
 // The fault of a circle, by the smallest constant left.
 fn circle_at(constants: &[Declaration], place: usize) -> Fault
-    ensures { result ≡ circle (nth constants.now place) }
+    ensures { result ≡ circle (slice_get constants.now place) }
 {
-    match declaration_at(constants, place) {
-        Some(d) => {
-            let line = d.line;
-            Fault { code: 8, line }
-        }
-        None => Fault { code: 8, line: 0 },
+    Flaw::Circle.at(declaration_at(constants, place).map_or(0, |d| d.line))
+}
+
+// Why constants without an order are at fault.
+fn unordered(constants: &[Declaration], why: Unordered) -> Fault
+    ensures { result ≡ fault_of constants.now why }
+{
+    match why {
+        Unordered::Stuck(place) => circle_at(constants, place),
+        Unordered::Short => Flaw::TooMuch.at(0),
     }
 }
 
 // Orders the constants by their lines, and learns their values.
 fn settle(
-    tokens: &[Token],
-    imports: &[Interface],
+    unit: &Unit<'_>,
     constants: &[Declaration],
     keys: &[u16],
     needs: &[Need<u16>],
@@ -92,20 +83,11 @@ fn settle(
 ) -> Result<(), Fault>
     requires few { length constants.now ≤ 12 }
     requires keyed { length keys.now ≡ length constants.now }
-    ensures { told result (held known.new) ≡ settled tokens.now (outside (map rows imports.now)) constants.now (ordered nat_cmp keys.now needs.now) }
+    ensures { told result (held known.new) ≡ settled unit.now.tokens.now (sees unit.now) constants.now (ordered nat_cmp keys.now needs.now) }
 {
     let mut places = [0usize; 12];
-    match order(keys, needs, &mut places) {
-        Ok(()) => value_all(
-            tokens,
-            imports,
-            constants,
-            &places[0..constants.len()],
-            known,
-        ),
-        Err(Unordered::Stuck(place)) => Err(circle_at(constants, place)),
-        Err(Unordered::Short) => Err(Fault { code: 9, line: 0 }),
-    }
+    order(keys, needs, &mut places).map_err(|why| unordered(constants, why))?;
+    value_all(unit, constants, &places[..constants.len()], known)
 }
 
 // What the order of a unit's constants is worked out in.
@@ -130,24 +112,17 @@ impl Solver {
     }
 
     // Fills the list with the constants and their values, or answers the fault.
-    pub fn solve(
-        &mut self,
-        tokens: &[Token],
-        imports: &[Interface],
-        declarations: &[Declaration],
-        known: &mut Bounded<Known, 12>,
-    ) -> Result<(), Fault>
-        ensures { told result (held known.new) ≡ solved tokens.now (outside (map rows imports.now)) declarations.now }
+    pub fn solve(&mut self, unit: &Unit<'_>, known: &mut Bounded<Known, 12>) -> Result<(), Fault>
+        ensures { told result (held known.new) ≡ solved unit.now.tokens.now (sees unit.now) unit.now.own.now }
     {
-        if declarations.len() > 12 {
-            return Err(Fault { code: 9, line: 0 });
+        if unit.own.len() > 12 {
+            return Err(Flaw::TooMuch.at(0));
         }
-        keep_constants(declarations, &mut self.constants);
+        keep_constants(unit.own, &mut self.constants);
         keep_lines(self.constants.as_slice(), &mut self.keys);
-        keep_needs(tokens, self.constants.as_slice(), &mut self.needs);
+        keep_needs(unit.tokens, self.constants.as_slice(), &mut self.needs);
         settle(
-            tokens,
-            imports,
+            unit,
             self.constants.as_slice(),
             self.keys.as_slice(),
             self.needs.as_slice(),

@@ -1,20 +1,19 @@
-use Rattle.std.proofs.Common.{◌+◌, ◌&&◌, drop, ap, ◌∙◌}
-use Rattle.grammar.specs.Line.{all_constant, opens}
-use Rattle.grammar.proofs.Turns.{turn, end}
+use Rattle.std.proofs.Common.{false, Some, rules}
+use borrow.Author.Tests.{tests}
+use Rattle.std.proofs.lemmas.Iterator.{YieldsList-from_slice, YieldsList-from_map, YieldsList-from_zip}
+use Rattle.std.proofs.lemmas.Iterator.Adapters.{YieldsList-from_once}
+use Rattle.std.proofs.lemmas.Iterator.Consumers.{YieldsList-at, YieldsList-from_chain}
+use Rattle.std.proofs.lemmas.Iterator.Search.{all_from_yields_List}
+use Rattle.grammar.specs.Line.{opens, constant}
 use Rattle.grammar.proofs.line.all_constant.Goals as goal
 
-pub returns-then-not-is_constant : goal.returns-then-not-is_constant
-returns-then-not-is_constant c =
-    let ts = c.args.tokens.now in
-    let i = c.loop-t.t-index in
-    ap (λ b. b && all_constant (opens c.t-item.result) (drop (i + 1) ts)) c.if-not-is_constant.ensures ∙ turn (all_constant c.loop-t.called) ts i _ c.loop-t.invariant _ c.loop-t-test.true c.t-item.is
-
-pub loop-t-preserved : goal.loop-t-preserved
-loop-t-preserved c =
-    let ts = c.args.tokens.now in
-    let i = c.loop-t.t-index in
-    ap (λ b. all_constant b (drop (i + 1) ts)) c.is_open-called.ensures
-    ∙ ap (λ b. b && all_constant (opens c.t-item.result) (drop (i + 1) ts)) c.if-not-is_constant.ensures ∙ turn (all_constant c.loop-t.called) ts i _ c.loop-t.invariant _ c.loop-t-test.true c.t-item.is
-
 pub returns : goal.returns
-returns c = end (all_constant c.loop-t.called) c.args.tokens.now c.loop-t.t-index _ c.loop-t.invariant c.loop-t-test.false
+returns c =
+    all_from_yields_List (λ p. constant p.0 p.1) c.all.new.self _ _ c.all.ensures.ran
+    (YieldsList-from_zip
+    (YieldsList-at c.zip.ensures.first (YieldsList-from_chain
+    (YieldsList-at c.chain.ensures.first (YieldsList-from_once (Some false) (cc)))
+    (YieldsList-from_map _ opens (YieldsList-from_slice c.args.tokens.now (cc)) (cc) (λ x r q k. search (rules, tests)))
+    (cc) (cc)))
+    (YieldsList-from_slice c.args.tokens.now (cc)))
+    (λ x b q k. search (rules, tests))

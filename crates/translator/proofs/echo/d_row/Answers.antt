@@ -1,4 +1,4 @@
-use Rattle.std.proofs.Common.{pos, ap}
+use Rattle.std.proofs.Common.{pos, ap, rules}
 use Rattle.names.specs.declared.name.Name.{Name}
 use Rattle.translator.specs.Echoed.{d_name}
 use Rattle.product.specs.declared.row.Row.{Row}
@@ -9,4 +9,4 @@ abbrev row_of : Name → Row
 row_of n = record { name = n; kind = 2; value = pos 0; line = 1 }
 
 pub returns : goal.returns
-returns c = ap row_of (same_name c.in-Ok.name d_name c.in-Ok.ensures)
+returns c = ap row_of (same_name c.unwrap-name.result d_name (search rules))

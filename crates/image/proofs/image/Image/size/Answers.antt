@@ -8,4 +8,4 @@ use Rattle.image.proofs.image.Image.size.Goals as goal
 pub returns : goal.returns
 returns c =
     let i = c.args.self.now in
-    omega (arith, c.len.ensures, c.len-2.ensures, c.total.ensures.value, c.total-2.ensures.value, c.total-3.ensures.value, length-map (used i.codes.lists) held, image_long (units i))
+    omega (arith, c.len-count.ensures, i.coded, c.total.ensures.value, c.total-2.ensures.value, c.total-3.ensures.value, length-map (used i.sections.codes.lists) held, image_long (units i))

@@ -1,4 +1,4 @@
-use Rattle.std.proofs.Common.{◌≡◌, ℕ, ◌+◌, ◌≤◌, length, take, vec_items, vec_len, sym, ap, ◌∙◌, arith}
+use Rattle.std.proofs.Common.{◌≡◌, ◌+◌, ◌≤◌, length, take, vec_items, vec_len, sym, ap, ◌∙◌, arith}
 use Rattle.names.proofs.Spelled.{padded_eight}
 use Rattle.store.specs.Pairs.{once}
 use Rattle.area.specs.Layout.{rows_of}
@@ -17,18 +17,16 @@ invariant_of-self-2 c =
     let made = longer_by s.end (vec_len s.area) xs (vec_items c.write.new.area) q bs (omega arith) s.good (padded_eight q c.args.name.valid) c.in_ok-write.ensures.outcome c.in_ok-write.ensures.after in
     let l = c.write.ensures.len in
     let m = length_more (log_pairs (records (take s.end xs))) q bs in
-    let n = s.number in
     let p = c.requires.row in
     let fits = lay_fits (vec_len s.area) s.end (length bs) (sym c.in_ok-write.ensures.outcome) in
     let inside : s.end + (11 + length bs) ≤ vec_len c.write.new.area = omega arith in
-    let few : s.count + 1 ≤ s.rows = omega arith in
+    let few : length (log_pairs (records (take s.end xs))) + 1 ≤ s.rows = omega arith in
     record {
       counted = s.counted ∙ ap rows_of (sym l);
       inside = inside;
       good = made.good;
       apart = ap once made.pairs ∙ once_more (log_pairs (records (take s.end xs))) q bs s.apart c.requires.fresh;
-      number = ap (λ (k : ℕ). k + 1) n ∙ sym m ∙ ap length (sym made.pairs);
-      few = few;
+      few = (let e = ap length made.pairs in omega arith);
     }
 
 pub returns-clause-marks : goal.returns-clause-marks
