@@ -11,6 +11,7 @@ pub struct Desk {
     pub kept: Artifact,
     pub(crate) scratch: Product,
     pub(crate) record: Bounded<u8, 1896>,
+    // kept as an array: a store's get writes into a buffer of a fixed size, and `recorded` answers the part that it wrote
     pub(crate) buffer: [u8; 1896],
 }
 

@@ -6,6 +6,7 @@ use bounded::Bounded;
 use names::Name;
 
 // What a build goes through: a desk for the unit at hand, the units that have their product, and what became of each.
+// A build is lent the translator and the store, which are of any types and stay its caller's.
 #[derive(Drop)]
 pub struct Workshop {
     pub(crate) desk: Desk,

@@ -76,6 +76,7 @@ impl Assembler {
         site.resolve(product.references.as_slice(), &mut self.targets);
         let targets = self.targets.as_slice();
         if let Some(k) = first_lacking(done, targets) {
+            // kept as `as`: no `From` leads from a usize to a u8, and `as` is proved to lose nothing
             return Err(Missing {
                 unit: unit.name(),
                 reference: k as u8,

@@ -32,6 +32,7 @@ impl Site<'_> {
     fn resolved(&self, reference: &Reference) -> Target
         ensures { result ≡ resolved_by self.now.names.now self.now.place self.now.imports.now reference.now }
     {
+        // kept as `as`: no `From` leads from a usize to a u8, and `as` is proved to lose nothing
         Target {
             unit: self.goal(reference.position).unwrap_or(0) as u8,
             entry: reference.entry,

@@ -114,6 +114,7 @@ impl Links {
         let i = order::smallest_left(self.names.as_slice(), self.whole.as_slice())?;
         let unit = project.unit(i)?;
         let k = project.lack(unit.imports())?;
+        // kept as `as`: no `From` leads from a usize to a u8, and `as` is proved to lose nothing
         Some((unit.name(), k as u8 + 1))
     }
 

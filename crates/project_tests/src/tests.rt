@@ -14,10 +14,8 @@ fn refused(text: &[u8]) -> bool {
 // Puts a unit that a line names: its name, then its imports. Answers the refusal's number, or 0.
 fn put(rt: &HostRuntime, project: &mut Project, line: &str, source: &[u8]) -> Result<u8, Fail> {
     let mut imports = Vec::new(rt.alloc());
-    for place in 1..line.len() {
-        let Some(word) = words::word(line.as_bytes(), place) else {
-            break;
-        };
+    let names = (1..line.len()).map_while(|place| words::word(line.as_bytes(), place));
+    for word in names {
         imports.push(named(word)?)?;
     }
     let word = words::word(line.as_bytes(), 0).ok_or("no unit")?;
