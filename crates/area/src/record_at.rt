@@ -98,6 +98,7 @@ pub fn write(area: &mut Vec<u8>, at: usize, name: Name, content: &[u8]) -> Resul
     }
     let bytes = area.as_mut_slice();
     let start = at + HEADER;
+    // kept as `as`: a record's length fits, and no `From` leads from a usize to a u16
     bytes[at..start].copy_from_slice(&header(name, n as u16));
     bytes[start..start + n].copy_from_slice(content);
     Ok(())

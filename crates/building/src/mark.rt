@@ -19,6 +19,7 @@ impl Mark {
     pub fn number(&self) -> u8
         ensures { result ≡ mark_number self.now }
     {
+        // the discriminant, which no `From` gives
         *self as u8
     }
 }

@@ -40,6 +40,7 @@ impl<'a> Emitting<'a> {
     {
         let value = match d.kind {
             Kind::Constant => known_value(&d.name, self.known).unwrap_or(0),
+            // kept as `as`: few functions stand, and no `From` leads from a usize to an i32
             Kind::Function => k as i32,
         };
         Row {

@@ -22,6 +22,7 @@ pub fn refer(reference: Reference, out: &mut Product) -> Result<(), Full>
 pub fn enter(out: &mut Product) -> Result<(), Full>
     ensures { done (is_ok result) (parts out.new) ≡ entering (parts out.old) }
 {
+    // kept as `as`: the code is short, and no `From` leads from a usize to a u16
     let place = out.code.len() as u16;
     out.entries.push(place)
 }
@@ -55,6 +56,7 @@ pub fn opcode_of(operator: Operator) -> u8
 pub fn call(reference: Reference, out: &mut Product) -> Result<(), Full>
     ensures { done (is_ok result) (parts out.new) ≡ calling reference (parts out.old) }
 {
+    // kept as `as`: the references are few, and no `From` leads from a usize to a u8
     let number = out.references.len() as u8;
     add(&[0x30, number], out)?;
     refer(reference, out)

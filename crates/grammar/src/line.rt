@@ -18,7 +18,7 @@ pub const FUN: [u8; 8] = *b"fun\0\0\0\0\0";
 
 pub const FORMULA: [u8; 8] = *b"formula\0";
 
-// Whether a name has these eight bytes.
+// Whether a name has these eight bytes; kept beside the names' equality, since no name can be a constant.
 pub fn spells(name: &Name, bytes: &[u8; 8]) -> bool
     ensures { result ≡ bytes_eq name.now.bytes bytes.now }
 {

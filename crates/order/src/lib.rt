@@ -28,12 +28,14 @@ fn is_placed(done: &[usize], item: usize) -> bool
     done.iter().any(|p| *p == item)
 }
 
+// Whether two keys are equal by their order, whatever `==` of the keys says.
 fn same<K: Ord>(a: &K, b: &K) -> bool
     ensures { result ≡ is_eq (K.Ord.cmp a.now b.now) }
 {
     a.cmp(b).is_eq()
 }
 
+// Whether the first key comes before the second.
 fn less<K: Ord>(a: &K, b: &K) -> bool
     ensures { result ≡ is_lt (K.Ord.cmp a.now b.now) }
 {

@@ -19,6 +19,7 @@ pub fn constant_at(imports: &[Interface], position: u8, name: Name) -> Option<i3
     ensures { result ≡ as_constant (row_at (map rows imports.now) position name.bytes) }
 {
     let row = row_at(imports, position, name)?;
+    // the discriminant of a kind, since rows of any language have numbers
     (row.kind == Kind::Constant as u8).then_some(row.value)
 }
 

@@ -23,7 +23,7 @@ impl Echo {
     }
 }
 
-// The row d.
+// The row d. Its kind is a number, as those of all rows: echo has no kinds of its own.
 fn d_row() -> Row
     ensures { result ≡ d_row }
 {

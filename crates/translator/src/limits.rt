@@ -19,5 +19,6 @@ pub fn admit(source: &[u8], imports: &[Interface]) -> Result<(), Fault>
     if admits(source, imports) {
         return Ok(());
     }
+    // a number, since this fault is told for every language
     Err(Fault { code: 9, line: 0 })
 }

@@ -23,12 +23,11 @@ pub fn keep_constants(declarations: &[Declaration], out: &mut Bounded<Declaratio
 }
 
 // Fills the list with the lines of the constants.
-pub fn keep_lines(constants: &[Declaration], out: &mut Bounded<u16, 12>)
-    requires { length constants.now ≤ 12 }
-    ensures { held out.new ≡ lines constants.now }
+pub fn keep_lines(constants: &Bounded<Declaration, 12>, out: &mut Bounded<u16, 12>)
+    ensures { held out.new ≡ lines (held constants.now) }
 {
     out.clear();
-    for d in constants {
+    for d in constants.as_slice() {
         let _ = out.push(d.line);
     }
 }
@@ -68,12 +67,15 @@ fn add_needs(
 }
 
 // Fills the list with the needs of all constants.
-pub fn keep_needs(tokens: &[Token], constants: &[Declaration], out: &mut Bounded<Need<u16>, 144>)
-    requires { length constants.now ≤ 12 }
-    ensures { held out.new ≡ needs tokens.now constants.now 0 constants.now }
+pub fn keep_needs(
+    tokens: &[Token],
+    constants: &Bounded<Declaration, 12>,
+    out: &mut Bounded<Need<u16>, 144>,
+)
+    ensures { held out.new ≡ needs tokens.now (held constants.now) 0 (held constants.now) }
 {
     out.clear();
-    for (i, d) in constants.iter().enumerate() {
-        add_needs(i, expression_of(tokens, d), constants, out);
+    for (i, d) in constants.as_slice().iter().enumerate() {
+        add_needs(i, expression_of(tokens, d), constants.as_slice(), out);
     }
 }

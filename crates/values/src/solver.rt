@@ -76,16 +76,16 @@ fn unordered(constants: &[Declaration], why: Unordered) -> Fault
 // Orders the constants by their lines, and learns their values.
 fn settle(
     unit: &Unit<'_>,
-    constants: &[Declaration],
+    constants: &Bounded<Declaration, 12>,
     keys: &[u16],
     needs: &[Need<u16>],
     known: &mut Bounded<Known, 12>,
 ) -> Result<(), Fault>
-    requires few { length constants.now ≤ 12 }
-    requires keyed { length keys.now ≡ length constants.now }
-    ensures { told result (held known.new) ≡ settled unit.now.tokens.now (sees unit.now) constants.now (ordered nat_cmp keys.now needs.now) }
+    requires { length keys.now ≡ length (held constants.now) }
+    ensures { told result (held known.new) ≡ settled unit.now.tokens.now (sees unit.now) (held constants.now) (ordered nat_cmp keys.now needs.now) }
 {
     let mut places = [0usize; 12];
+    let constants = constants.as_slice();
     order(keys, needs, &mut places).map_err(|why| unordered(constants, why))?;
     value_all(unit, constants, &places[..constants.len()], known)
 }
@@ -119,11 +119,11 @@ impl Solver {
             return Err(Flaw::TooMuch.at(0));
         }
         keep_constants(unit.own, &mut self.constants);
-        keep_lines(self.constants.as_slice(), &mut self.keys);
-        keep_needs(unit.tokens, self.constants.as_slice(), &mut self.needs);
+        keep_lines(&self.constants, &mut self.keys);
+        keep_needs(unit.tokens, &self.constants, &mut self.needs);
         settle(
             unit,
-            self.constants.as_slice(),
+            &self.constants,
             self.keys.as_slice(),
             self.needs.as_slice(),
             known,
