@@ -62,11 +62,14 @@ impl Done {
         self.units.as_slice().get(i).map(|f| &f.product)
     }
 
-    // One unit more, with a product that is taken over; refused, and no unit more, where 24 stand.
+    // One unit more, with a product that is taken over; refused, and nothing done, where 24 stand.
     pub fn push(&mut self, name: Name, product: &mut Product) -> Result<(), Full>
         ensures fits { is_ok result ≡ nat_lt (length (done_list self.old)) 24 }
         ensures after { done_list self.new ≡ (if is_ok result then done_list self.old ++ (record { unit = name; parts = parts product.old }) ∷ [] else done_list self.old) }
     {
+        if self.units.len() >= 24 {
+            return Err(Full);
+        }
         self.next.name = name;
         mem::swap(&mut self.next.product, product);
         self.units.add(&mut self.next)
