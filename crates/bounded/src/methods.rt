@@ -29,6 +29,7 @@ impl<T, const N: usize> Bounded<T, N> {
     }
 
     // One element more at the end; refused, and nothing done, where N stand.
+    // A list takes elements one by one: a method that took any iterator would have each caller prove how many come.
     pub fn push(&mut self, x: T) -> Result<(), Full>
     where
         T: Drop,

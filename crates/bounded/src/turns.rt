@@ -1,5 +1,5 @@
 // Elements of a pool come into use and go out of it; each keeps its memory.
-ghost use Rattle.std.specs.Prelude.{◌≡◌, ◌<◌, [], ◌∷◌, ◌++◌, length, set, is_ok, IfOk, if◌then◌else◌, nat_lt};
+ghost use Rattle.std.specs.Prelude.{◌≡◌, ◌<◌, [], ◌∷◌, ◌++◌, length, set, is_ok, IfOk, OnErr, if◌then◌else◌, nat_lt};
 ghost use Rattle.std.specs.List.{remove};
 ghost use Rattle.bounded.specs.Held.{used};
 
@@ -49,6 +49,7 @@ impl<T, const N: usize> Pool<T, N> {
         T: Drop,
         ensures fits { is_ok result ≡ nat_lt (length (used self.old)) N }
         ensures after { used self.new ≡ (if is_ok result then used self.old ++ x.old ∷ [] else used self.old) }
+        ensures refused { OnErr result (x.new ≡ x.old) }
     {
         let mut free = self.spare.pop().ok_or(Full)?;
         mem::swap(&mut free, x);

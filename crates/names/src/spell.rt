@@ -53,6 +53,7 @@ fn is_written(text: &[u8]) -> bool
     }
 }
 
+// Two forms of a name are bytes: the names of these functions tell which is meant, as no `TryFrom` could.
 impl Name {
     // The name of eight bytes in the padded form.
     pub fn from_padded(bytes: [u8; 8]) -> Result<Name, Refusal>

@@ -9,7 +9,7 @@ ghost use Rattle.order.specs.Dependency.{placed, settled, free, ready, next, lef
 ghost use Rattle.order.specs.Law.{Lawful};
 
 // The item at a place needs every item of a key.
-#[derive(Clone, Copy)]
+#[derive(Clone, Copy, Debug, PartialEq, Eq)]
 pub struct Need<K> {
     pub item: usize,
     pub key: K,
@@ -83,7 +83,7 @@ fn pick<K: Ord>(keys: &[K], needs: &[Need<K>], done: &[usize]) -> Option<usize>
     ensures { result ≡ next K.Ord.cmp keys.now needs.now done.now }
 {
     let mut best = None;
-    // over the places, since an item is its place; `min_by` would ask its closure about any place, also one that no item has
+    // kept as a loop: as a chain it was tried, and no lemma of the library says what `min_by` picks by a closure
     for i in 0..keys.len() {
         if is_ready(keys, needs, done, i) {
             best = match best {
@@ -95,8 +95,8 @@ fn pick<K: Ord>(keys: &[K], needs: &[Need<K>], done: &[usize]) -> Option<usize>
     best
 }
 
-// The smallest item that is not placed.
-fn left_over<K: Ord>(keys: &[K], done: &[usize]) -> Option<usize>
+// The smallest item that is not placed, if any is left.
+pub fn smallest_left<K: Ord>(keys: &[K], done: &[usize]) -> Option<usize>
     ensures { result ≡ left K.Ord.cmp keys.now done.now }
 {
     let no_needs: [Need<K>; 0] = [];
@@ -112,8 +112,8 @@ fn fill<K: Ord>(keys: &[K], needs: &[Need<K>], places: &mut [usize]) -> Result<(
     }
     // by the place, since what stands before it is read while it is written
     for count in 0..keys.len() {
-        let Some(item) = pick(keys, needs, &places[0..count]) else {
-            return Err(Unordered::Stuck(left_over(keys, &places[0..count]).unwrap_or(0)));
+        let Some(item) = pick(keys, needs, &places[..count]) else {
+            return Err(Unordered::Stuck(smallest_left(keys, &places[..count]).unwrap_or(0)));
         };
         places[count] = item;
     }
@@ -124,13 +124,6 @@ fn fill<K: Ord>(keys: &[K], needs: &[Need<K>], places: &mut [usize]) -> Result<(
 fn is_lawful<K: Ord>(_keys: &[K], _needs: &[Need<K>])
     ensures { Lawful K.Ord.cmp _keys.now _needs.now (ordered K.Ord.cmp _keys.now _needs.now) }
 {}
-
-// The smallest item that is not placed, if any is left.
-pub fn smallest_left<K: Ord>(keys: &[K], done: &[usize]) -> Option<usize>
-    ensures { result ≡ left K.Ord.cmp keys.now done.now }
-{
-    left_over(keys, done)
-}
 
 // Orders the items. Places gets the place of each item in the list of keys, in the order in which they come.
 pub fn order<K: Ord>(keys: &[K], needs: &[Need<K>], places: &mut [usize]) -> Result<(), Unordered>
