@@ -5,31 +5,22 @@ use std::path::{Path, PathBuf};
 
 // The bytes of a file.
 pub fn bytes(rt: &HostRuntime, path: &str) -> anyhow::Result<Vec<u8>> {
-    match fs::read(rt, path) {
-        Ok(bytes) => Ok(bytes),
-        Err(e) => {
-            eprintln!(rt; "{path}: cannot be read: {e}")?;
-            Err(e.into())
-        }
-    }
+    fs::read(rt, path).or_else(|e| {
+        eprintln!(rt; "{path}: cannot be read: {e}")?;
+        Err(e.into())
+    })
 }
 
 // The text of a file.
 pub fn text(rt: &HostRuntime, path: &str) -> anyhow::Result<String> {
-    match String::from_utf8(bytes(rt, path)?) {
-        Ok(text) => Ok(text),
-        Err(_) => {
-            eprintln!(rt; "{path}: is no text")?;
-            Err(anyhow!("no text"))
-        }
-    }
+    String::from_utf8(bytes(rt, path)?).or_else(|_| {
+        eprintln!(rt; "{path}: is no text")?;
+        Err(anyhow!("no text"))
+    })
 }
 
 // A file that another names: looked up from the other's folder.
 pub fn beside(rt: &HostRuntime, other: &str, file: &str) -> anyhow::Result<PathBuf> {
-    let folder = match Path::new(other).parent() {
-        Some(folder) => folder,
-        None => Path::new(""),
-    };
+    let folder = Path::new(other).parent().unwrap_or(Path::new(""));
     Ok(folder.join(rt.alloc(), file)?)
 }

@@ -4,6 +4,7 @@ use codec::Input;
 // Whether all of the code is instructions.
 fn is_formula(code: &[u8]) -> bool {
     let mut input = Input { rest: code };
+    // at most so many turns, since each instruction takes a byte or more
     for _ in 0..code.len() {
         if input.rest.is_empty() {
             return true;

@@ -35,17 +35,13 @@ fn unit(
     };
     let source = source(rt, line, file)?;
     let imports = imports(rt, line)?;
-    match project.put(name, imports.as_slice(), source.as_slice()) {
-        Ok(_) => Ok(()),
-        Err(refusal) => line.refused(rt, refusal, "a unit is refused"),
-    }
+    project
+        .put(name, imports.as_slice(), source.as_slice())
+        .or_else(|refusal| line.refused(rt, refusal, "a unit is refused"))
 }
 
 fn name(rt: &HostRuntime, line: &Line<'_>, word: &[u8]) -> anyhow::Result<Name> {
-    match Name::from_text(word) {
-        Ok(name) => Ok(name),
-        Err(refusal) => line.refused(rt, refusal, "no name"),
-    }
+    Name::from_text(word).or_else(|refusal| line.refused(rt, refusal, "no name"))
 }
 
 // The bytes of a source file.
@@ -54,10 +50,11 @@ fn source(rt: &HostRuntime, line: &Line<'_>, file: &[u8]) -> anyhow::Result<Vec<
         return line.wrong(rt, "the source file's name is no text", WRONG);
     };
     let found = files::beside(rt, line.path, file)?;
-    match files::bytes(rt, found.as_str()) {
-        Ok(bytes) => Ok(bytes),
-        Err(_) => line.wrong(rt, "its source file cannot be read", WRONG),
-    }
+    files::bytes(rt, found.as_str()).or_else(|_| line.wrong(
+        rt,
+        "its source file cannot be read",
+        WRONG,
+    ))
 }
 
 // The words behind the source file, as names.

@@ -18,10 +18,7 @@ use anyhow::anyhow;
 use std::env;
 
 fn main(rt: HostRuntime) -> anyhow::Result<()> {
-    let mut args: Vec<String> = Vec::new(rt.alloc());
-    for arg in env::args(&rt)? {
-        args.push(arg)?;
-    }
+    let args: Vec<String> = env::args(&rt)?.collect(rt.alloc())?;
     match args.as_slice() {
         [_, word, rest @ ..] => run(&rt, word.as_str(), rest),
         _ => usage::print(&rt),

@@ -1,8 +1,7 @@
 // Pictures of an area: a line for every record, with its offset, its mark, its name and its length.
-use area::layout::{HEADER, LENGTH_AT, NAME_AT, SLOT};
-use area::record_at::{is_live, length_of};
+use area::layout::{HEADER, SLOT};
+use area::record_at::{is_live, length_of, name_of};
 use log_store::LogStore;
-use names::Name;
 use slot::SlotStore;
 use store::Store;
 
@@ -27,9 +26,7 @@ fn record(rt: &HostRuntime, at: usize, piece: &[u8]) -> anyhow::Result<()> {
     if piece.len() < HEADER {
         return Ok(());
     }
-    let mut bytes = [0u8; 8];
-    bytes.copy_from_slice(&piece[NAME_AT..LENGTH_AT]);
-    let Ok(name) = Name::from_padded(bytes) else {
+    let Some(name) = name_of(piece) else {
         return Ok(());
     };
     let mark = if is_live(piece) { "live" } else { "dead" };

@@ -1,7 +1,7 @@
 // Scripts of calls on a store: a call a line, and its answer.
 ghost use Rattle.std.specs.Prelude.{◌<◌, IfSome};
 
-use crate::lines::Line;
+use crate::lines::{Line, Source, number};
 use area::layout::{LONGEST, ROWS, SLOT};
 use names::Name;
 use store::{Answer, Call, Store};
@@ -9,13 +9,14 @@ use store::{Answer, Call, Store};
 const WRONG: &str = "the script is wrong";
 
 // The length of the area that the script asks for, or that of the most rows.
-pub fn area(rt: &HostRuntime, path: &str, text: &str) -> anyhow::Result<usize> {
-    for (number, text) in (1..usize::MAX).zip(text.lines()) {
+pub fn area(rt: &HostRuntime, script: &Source<'_>) -> anyhow::Result<usize> {
+    let path = script.path;
+    for (number, text) in (1..usize::MAX).zip(script.text.lines()) {
         let line = Line { path, number, text };
         match line.word(0) {
             None => {}
             Some(b"area") => {
-                let Some(length) = count(&line, 1) else {
+                let Some(length) = line.count(1) else {
                     return line.wrong(rt, "area takes a number of bytes", WRONG);
                 };
                 return Ok(length);
@@ -27,20 +28,16 @@ pub fn area(rt: &HostRuntime, path: &str, text: &str) -> anyhow::Result<usize> {
 }
 
 // Makes the calls of the script, and prints each with its answer.
-pub fn run<S: Store>(
-    rt: &HostRuntime,
-    store: &mut S,
-    path: &str,
-    text: &str,
-) -> anyhow::Result<()> {
-    for (number, text) in (1..usize::MAX).zip(text.lines()) {
+pub fn run<S: Store>(rt: &HostRuntime, store: &mut S, script: &Source<'_>) -> anyhow::Result<()> {
+    let path = script.path;
+    for (number, text) in (1..usize::MAX).zip(script.text.lines()) {
         let line = Line { path, number, text };
         match line.word(0) {
             None | Some(b"area") => {}
             Some(word) => {
                 let call = call(rt, &line, word)?;
                 let room = match &call {
-                    Call::Get { .. } => count(&line, 2).unwrap_or(LONGEST),
+                    Call::Get { .. } => line.count(2).unwrap_or(LONGEST),
                     _ => 0,
                 };
                 print!(rt; "{text}: ")?;
@@ -105,15 +102,6 @@ fn call(rt: &HostRuntime, line: &Line<'_>, word: &[u8]) -> anyhow::Result<Call> 
     }
 }
 
-// The number in a word of the line.
-fn count(line: &Line<'_>, place: usize) -> Option<usize> {
-    number(line.word(place)?)
-}
-
-fn number(word: &[u8]) -> Option<usize> {
-    std::str::from_utf8(word).ok()?.parse::<usize>().ok()
-}
-
 // The bytes of a record: - for none, LENGTH*HH for a run of one byte, else two digits a byte.
 fn content(rt: &HostRuntime, line: &Line<'_>, text: &[u8]) -> anyhow::Result<Vec<u8>> {
     let mut bytes = Vec::new(rt.alloc());
@@ -147,10 +135,5 @@ fn pair(high: u8, low: u8) -> Option<u8> {
 fn digit(b: u8) -> Option<u8>
     ensures { IfSome result (λ d. d < 16) }
 {
-    match b {
-        b'0'..=b'9' => Some(b - b'0'),
-        b'a'..=b'f' => Some(b - b'a' + 10),
-        b'A'..=b'F' => Some(b - b'A' + 10),
-        _ => None,
-    }
+    u8::try_from(char::from(b).to_digit(16)?).ok()
 }

@@ -52,15 +52,18 @@ fn either(rt: &HostRuntime, path: &str) -> anyhow::Result<()> {
     }
 }
 
+// A file that is not what it was taken for.
+fn none(rt: &HostRuntime, path: &str, refusal: Refusal, what: &'static str) -> anyhow::Result<()> {
+    tell(rt, path, refusal)?;
+    Err(anyhow!("{what}"))
+}
+
 fn image(rt: &HostRuntime, path: &str) -> anyhow::Result<()> {
     let bytes = files::bytes(rt, path)?;
     let mut found = Image::open(rt.alloc())?;
     match found.read(bytes.as_slice()) {
         Ok(_) => map(rt, &found),
-        Err(refusal) => {
-            tell(rt, path, refusal)?;
-            Err(anyhow!("no image"))
-        }
+        Err(refusal) => none(rt, path, refusal, "no image"),
     }
 }
 
@@ -69,10 +72,7 @@ fn artifact(rt: &HostRuntime, path: &str) -> anyhow::Result<()> {
     let mut record = Artifact::open(rt.alloc())?;
     match record.read(bytes.as_slice()) {
         Ok(_) => parts(rt, &record),
-        Err(refusal) => {
-            tell(rt, path, refusal)?;
-            Err(anyhow!("no artifact"))
-        }
+        Err(refusal) => none(rt, path, refusal, "no artifact"),
     }
 }
 

@@ -1,4 +1,5 @@
 // The word `store`: runs a script over a store, and shows the area at the end.
+use crate::lines::Source;
 use crate::{files, picture, script, usage};
 use anyhow::anyhow;
 use cache::Cache;
@@ -11,32 +12,36 @@ pub fn run(rt: &HostRuntime, args: &[String]) -> anyhow::Result<()> {
         return Err(anyhow!("store takes a kind and a script"));
     };
     let text = files::text(rt, path.as_str())?;
-    let length = script::area(rt, path.as_str(), text.as_str())?;
+    let script = Source {
+        path: path.as_str(),
+        text: text.as_str(),
+    };
+    let length = script::area(rt, &script)?;
     let area = vec![in rt.alloc(); 0u8; length]?;
-    over(rt, kind.as_str(), area, path.as_str(), text.as_str())
+    over(rt, kind.as_str(), area, &script)
 }
 
 // The script over a store of the kind.
-fn over(rt: &HostRuntime, kind: &str, area: Vec<u8>, path: &str, text: &str) -> anyhow::Result<()> {
+fn over(rt: &HostRuntime, kind: &str, area: Vec<u8>, script: &Source<'_>) -> anyhow::Result<()> {
     match kind {
         "slot" => {
             let mut slots = SlotStore::open(area);
-            script::run(rt, &mut slots, path, text)?;
+            script::run(rt, &mut slots, script)?;
             picture::slots(rt, &slots)
         }
         "log" => {
             let mut log = LogStore::open(area);
-            script::run(rt, &mut log, path, text)?;
+            script::run(rt, &mut log, script)?;
             picture::log(rt, &log)
         }
         "cache+slot" => {
             let mut cache = Cache::open(rt.alloc(), SlotStore::open(area))?;
-            script::run(rt, &mut cache, path, text)?;
+            script::run(rt, &mut cache, script)?;
             picture::slots(rt, cache.below())
         }
         "cache+log" => {
             let mut cache = Cache::open(rt.alloc(), LogStore::open(area))?;
-            script::run(rt, &mut cache, path, text)?;
+            script::run(rt, &mut cache, script)?;
             picture::log(rt, cache.below())
         }
         _ => {

@@ -35,6 +35,7 @@ pub fn run(rt: &HostRuntime, args: &[String]) -> anyhow::Result<()> {
     let mut paths = Vec::new(rt.alloc());
     let mut language = Language::Formula;
     let mut rest = args.iter();
+    // no `for`, since `--as` takes the word behind it
     while let Some(arg) = rest.next() {
         if arg.as_str() != "--as" {
             paths.push(arg.as_str())?;
@@ -62,13 +63,10 @@ pub fn run(rt: &HostRuntime, args: &[String]) -> anyhow::Result<()> {
 
 // The translator that a word names.
 fn named(rt: &HostRuntime, word: &str) -> anyhow::Result<Language> {
-    match word.parse::<Language>() {
-        Ok(language) => Ok(language),
-        Err(UnknownLanguage) => {
-            eprintln!(rt; "--as takes formula or echo")?;
-            Err(anyhow!("no such translator"))
-        }
-    }
+    word.parse::<Language>().or_else(|_| {
+        eprintln!(rt; "--as takes formula or echo")?;
+        Err(anyhow!("no such translator"))
+    })
 }
 
 // Translates, and prints the product or the fault.
@@ -96,7 +94,7 @@ fn product(rt: &HostRuntime, product: &Product) -> anyhow::Result<()> {
     print::places(rt, product)
 }
 
-// What is wrong, in a sentence.
+// What is wrong, in a sentence. By numbers, as a person is told them: the fault may be of any translator.
 fn meaning(fault: Fault) -> &'static str {
     match fault.code {
         1 => "The first line has to be the word formula, and nothing else.",
@@ -146,10 +144,7 @@ fn read_line(rt: &HostRuntime, line: &Line<'_>, interface: &mut Interface) -> an
             "the interface is wrong",
         );
     };
-    match interface.push(row) {
-        Ok(_) => Ok(()),
-        Err(refusal) => line.refused(rt, refusal, "the interface is refused"),
-    }
+    interface.push(row).or_else(|refusal| line.refused(rt, refusal, "the interface is refused"))
 }
 
 // The lines of a product that say nothing of its interface.
@@ -165,16 +160,8 @@ fn row(line: &Line<'_>, place: u8) -> Option<Row> {
     }
     Some(Row {
         name: Name::from_text(line.word(start)?).ok()?,
-        kind: number(line.word(start + 1)?)?,
-        value: number(line.word(start + 2)?)?,
-        line: number(line.word(start + 3)?)?,
+        kind: line.count(start + 1)?,
+        value: line.count(start + 2)?,
+        line: line.count(start + 3)?,
     })
-}
-
-// The number that a word writes.
-fn number<N: FromStr>(word: &[u8]) -> Option<N>
-where
-    <N as FromStr>::Err: Drop,
-{
-    std::str::from_utf8(word).ok()?.parse::<N>().ok()
 }
