@@ -45,6 +45,7 @@ impl<'a> Emitting<'a> {
         };
         Row {
             name: d.name,
+            // the discriminant of a kind is its number in a row
             kind: d.kind as u8,
             value,
             line: d.line,

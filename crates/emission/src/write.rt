@@ -1,4 +1,5 @@
 // What is written behind a product, if there is room.
+// Opcodes are bare bytes: they are of the format, and who writes code needs nothing of who names it for show.
 ghost use Rattle.std.specs.Prelude.{◌≡◌, is_ok};
 ghost use Rattle.product.specs.Parts.{parts};
 ghost use Rattle.emission.specs.Wrote.{done, adding, referring, entering, showing_row, opcode, pushing, calling};

@@ -71,6 +71,7 @@ impl Translator for Formula {
     ) -> Result<(), Fault> {
         self.count = self.count.wrapping_add(1);
         admit(source, imports)?;
+        // `admit` stands before it, so this cannot come
         read(source, &mut self.tokens).map_err(|_| Flaw::TooMuch.at(0))?;
         declare(&self.tokens, &mut self.declarations)?;
         let unit = Unit {

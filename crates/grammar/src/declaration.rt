@@ -15,6 +15,7 @@ pub struct Declared {
 }
 
 // A constant or a function: its name, its line, and where its expression stands among the tokens.
+// Places and no slice: tokens and declarations lie in the reserved memory of one translator.
 #[derive(Clone, Copy, Debug, PartialEq, Eq)]
 pub struct Declaration {
     pub kind: Kind,

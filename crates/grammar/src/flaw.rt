@@ -31,6 +31,7 @@ impl Flaw {
         ensures { result ≡ at self line }
     {
         Fault {
+            // the discriminant of a flaw is its number in a fault
             code: self as u8,
             line,
         }

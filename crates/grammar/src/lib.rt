@@ -13,6 +13,6 @@ pub mod walk;
 pub use declaration::{Declaration, Declared, Kind};
 pub use expression::{check, descend};
 pub use flaw::Flaw;
-pub use line::{CONST, FORMULA, FUN, X, is_open, judge, spells};
+pub use line::{CONST, FORMULA, FUN, X, all_called, is_open, judge, spells};
 pub use sense::Sense;
 pub use walk::{declare, expression_of};

@@ -1,7 +1,8 @@
 // What a line says: nothing, one declaration, or that it is wrong.
-ghost use Rattle.std.specs.Prelude.{◌≡◌, ◌<◌, false};
+ghost use Rattle.std.specs.Prelude.{◌≡◌, ◌<◌, Bool};
+ghost use Rattle.std.specs.List.{list_all};
 ghost use Rattle.std.specs.Str.{bytes_eq};
-ghost use Rattle.grammar.specs.Line.{name_of, keyword, equates, opens, formless, open_behind, any_formless, deep, constant, all_constant, whole, equated, naming, declaring, opening, said};
+ghost use Rattle.grammar.specs.Line.{name_of, keyword, equates, opens, formless, open_behind, any_formless, deep, constant, all_constant, placed, whole, equated, naming, declaring, opening, said};
 
 use crate::declaration::{Declared, Kind};
 use crate::expression::check;
@@ -38,12 +39,10 @@ fn name_in(token: &Token) -> Option<Name>
 fn keyword(word: Name) -> Option<Kind>
     ensures { result ≡ keyword word }
 {
-    if spells(&word, &CONST) {
-        Some(Kind::Constant)
-    } else if spells(&word, &FUN) {
-        Some(Kind::Function)
-    } else {
-        None
+    match word.bytes() {
+        CONST => Some(Kind::Constant),
+        FUN => Some(Kind::Function),
+        _ => None,
     }
 }
 
@@ -106,13 +105,21 @@ fn opens_ninth(tokens: &[Token]) -> bool
     false
 }
 
-fn all_constant(tokens: &[Token]) -> bool
-    ensures { result ≡ all_constant tokens.now }
+// Whether a test holds of every token, by whether it is called and itself; one is called where it stands behind an opening parenthesis.
+pub fn all_called<F: Fn(bool, &Token) -> bool>(tokens: &[Token], test: F) -> bool
+    requires { F.IsAlwaysCallable test }
+    ensures { (holds : Bool → Token → Bool) → ((called : Bool) (t : _) (b : Bool) → F.post test called t b → b ≡ holds called t.now) → result ≡ list_all (λ p. holds p.0 p.1) (placed tokens.now) }
 {
     once(false)
         .chain(tokens.iter().map(is_open))
         .zip(tokens)
-        .all(|(called, token)| is_constant(called, token))
+        .all(|(called, token)| test(called, token))
+}
+
+fn all_constant(tokens: &[Token]) -> bool
+    ensures { result ≡ all_constant tokens.now }
+{
+    all_called(tokens, is_constant)
 }
 
 fn is_whole(tokens: &[Token]) -> bool

@@ -17,6 +17,7 @@ fn is_line_end(token: &Token) -> bool
 }
 
 // Takes down what a line said.
+// Five parameters: a line's number, its two places and what it said are the parts of one declaration, `out` is the list of them.
 fn note(
     line: u16,
     start: usize,
@@ -49,8 +50,9 @@ pub fn declare(
 {
     out.clear();
     let all = tokens.as_slice();
+    // kept as counters: a declaration says its places among all tokens, which the pieces of a split do not tell,
+    // and lines are counted only at their ends
     let mut start = 0;
-    // kept as a counter: places are counted among all tokens, lines only at their ends
     let mut line: u16 = 1;
     for (i, t) in all.iter().enumerate() {
         if is_line_end(t) {

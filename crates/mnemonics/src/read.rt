@@ -10,6 +10,7 @@ use codec::{Field, Input, Malformed};
 pub fn next(input: &mut Input<'_>) -> Result<Instruction, Malformed>
     ensures { read_as result (left input.new) ≡ instruction (left input.old) }
 {
+    // bare bytes: opcodes are of the format, and their names are those of `Instruction`
     match u8::read(input)? {
         0x01 => Ok(Instruction::Push(i32::read(input)?)),
         0x02 => Ok(Instruction::Argument),

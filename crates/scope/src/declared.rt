@@ -3,13 +3,13 @@ ghost use Rattle.std.specs.Prelude.{◌≡◌, ◌≤◌, length};
 ghost use Rattle.std.specs.Result.{result_err};
 ghost use Rattle.scope.specs.Names.{reserved, declared, ill_named, misnamed, named, is_constant, functions_before, entry_of};
 
-use grammar::{CONST, Declaration, FORMULA, FUN, Flaw, Kind, X, spells};
+use grammar::{CONST, Declaration, FORMULA, FUN, Flaw, Kind, X};
 use names::{Fault, Name};
 
 fn is_reserved(name: &Name) -> bool
     ensures { result ≡ reserved name.now.bytes }
 {
-    spells(name, &X) || spells(name, &CONST) || spells(name, &FUN) || spells(name, &FORMULA)
+    [X, CONST, FUN, FORMULA].contains(&name.bytes())
 }
 
 fn is_declared(name: &Name, declarations: &[Declaration]) -> bool

@@ -28,6 +28,7 @@ pub fn function_at(imports: &[Interface], position: u8, name: Name) -> Option<u8
     ensures { result ≡ as_function (row_at (map rows imports.now) position name.bytes) }
 {
     let row = row_at(imports, position, name)?;
+    // the discriminant of a kind, as above
     if row.kind != Kind::Function as u8 {
         return None;
     }

@@ -10,9 +10,8 @@ ghost use Rattle.scope.specs.Sees.{sees};
 use crate::declared::{entry_of, is_constant};
 use crate::imported::{constant_at, function_at};
 use crate::unit::Unit;
-use grammar::{Flaw, X, expression_of, is_open, spells};
+use grammar::{Flaw, X, all_called, expression_of, spells};
 use names::{Fault, Name};
-use std::iter::once;
 use tokens::Token;
 
 impl<'a> Unit<'a> {
@@ -47,10 +46,7 @@ impl<'a> Unit<'a> {
     fn all_useful(&self, tokens: &[Token]) -> bool
         ensures { result ≡ all_useful self.now.own.now (sees self.now) tokens.now }
     {
-        once(false)
-            .chain(tokens.iter().map(is_open))
-            .zip(tokens)
-            .all(|(called, token)| self.is_useful(called, token))
+        all_called(tokens, |called, token| self.is_useful(called, token))
     }
 
     // Refuses the first declaration that uses a name that is unknown or of no use there.

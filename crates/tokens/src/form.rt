@@ -60,7 +60,7 @@ fn decimal_of(digits: &[u8]) -> Option<u64>
     requires { length digits.now ≤ 10 }
     ensures { result ≡ decimal 0 digits.now }
 {
-    // kept as a loop: it ends at the first byte that is no digit, and a `try_fold` would say its bound in the closure
+    // kept as a loop: a `try_fold` would say its bound in the closure
     let mut n: u64 = 0;
     for b in digits {
         if !b.is_ascii_digit() {

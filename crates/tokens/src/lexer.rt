@@ -23,7 +23,7 @@ fn single_of(b: u8) -> Option<Token>
     }
 }
 
-#[derive(Drop)]
+#[derive(Debug, PartialEq, Eq, Drop)]
 pub struct Lexer {
     state: State,
 }

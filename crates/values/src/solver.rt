@@ -23,39 +23,6 @@ fn declaration_at(declarations: &[Declaration], place: usize) -> Option<Declarat
     declarations.get(place).copied()
 }
 
-// Learns the value of the constant at a place.
-fn value_next(
-    unit: &Unit<'_>,
-    constants: &[Declaration],
-    place: usize,
-    known: &mut Bounded<Known, 12>,
-) -> Result<(), Fault>
-    requires { length (held known.old) < 12 }
-    ensures { told result (held known.new) ≡ behind unit.now.tokens.now (sees unit.now) (held known.old) (slice_get constants.now place) }
-{
-    match declaration_at(constants, place) {
-        Some(d) => learn(&d, value_of(unit, known.as_slice(), &d), known),
-        None => Ok(()),
-    }
-}
-
-// Learns the values of the constants at these places, one after the other.
-fn value_all(
-    unit: &Unit<'_>,
-    constants: &[Declaration],
-    places: &[usize],
-    known: &mut Bounded<Known, 12>,
-) -> Result<(), Fault>
-    requires { length places.now ≤ 12 }
-    ensures { told result (held known.new) ≡ valued unit.now.tokens.now (sees unit.now) constants.now [] places.now }
-{
-    known.clear();
-    for p in places {
-        value_next(unit, constants, *p, known)?;
-    }
-    Ok(())
-}
-
 // The fault of a circle, by the smallest constant left.
 fn circle_at(constants: &[Declaration], place: usize) -> Fault
     ensures { result ≡ circle (slice_get constants.now place) }
@@ -71,23 +38,6 @@ fn unordered(constants: &[Declaration], why: Unordered) -> Fault
         Unordered::Stuck(place) => circle_at(constants, place),
         Unordered::Short => Flaw::TooMuch.at(0),
     }
-}
-
-// Orders the constants by their lines, and learns their values.
-fn settle(
-    unit: &Unit<'_>,
-    constants: &Bounded<Declaration, 12>,
-    keys: &[u16],
-    needs: &[Need<u16>],
-    known: &mut Bounded<Known, 12>,
-) -> Result<(), Fault>
-    requires { length keys.now ≡ length (held constants.now) }
-    ensures { told result (held known.new) ≡ settled unit.now.tokens.now (sees unit.now) (held constants.now) (ordered nat_cmp keys.now needs.now) }
-{
-    let mut places = [0usize; 12];
-    let constants = constants.as_slice();
-    order(keys, needs, &mut places).map_err(|why| unordered(constants, why))?;
-    value_all(unit, constants, &places[..constants.len()], known)
 }
 
 // What the order of a unit's constants is worked out in.
@@ -111,6 +61,52 @@ impl Solver {
         })
     }
 
+    // Learns the value of the constant at a place.
+    fn value_next(
+        &self,
+        unit: &Unit<'_>,
+        place: usize,
+        known: &mut Bounded<Known, 12>,
+    ) -> Result<(), Fault>
+        requires { length (held known.old) < 12 }
+        ensures { told result (held known.new) ≡ behind unit.now.tokens.now (sees unit.now) (held known.old) (slice_get (held self.now.constants) place) }
+    {
+        match declaration_at(self.constants.as_slice(), place) {
+            Some(d) => learn(&d, value_of(unit, known.as_slice(), &d), known),
+            None => Ok(()),
+        }
+    }
+
+    // Learns the values of the constants at these places, one after the other.
+    fn value_all(
+        &self,
+        unit: &Unit<'_>,
+        places: &[usize],
+        known: &mut Bounded<Known, 12>,
+    ) -> Result<(), Fault>
+        requires { length places.now ≤ 12 }
+        ensures { told result (held known.new) ≡ valued unit.now.tokens.now (sees unit.now) (held self.now.constants) [] places.now }
+    {
+        known.clear();
+        for p in places {
+            self.value_next(unit, *p, known)?;
+        }
+        Ok(())
+    }
+
+    // Orders the constants by their lines, and learns their values.
+    fn settle(&self, unit: &Unit<'_>, known: &mut Bounded<Known, 12>) -> Result<(), Fault>
+        requires { length (held self.now.keys) ≡ length (held self.now.constants) }
+        ensures { told result (held known.new) ≡ settled unit.now.tokens.now (sees unit.now) (held self.now.constants) (ordered nat_cmp (held self.now.keys) (held self.now.needs)) }
+    {
+        let mut places = [0usize; 12];
+        let constants = self.constants.as_slice();
+        order(self.keys.as_slice(), self.needs.as_slice(), &mut places).map_err(|why| unordered(
+            constants, why,
+        ))?;
+        self.value_all(unit, &places[..constants.len()], known)
+    }
+
     // Fills the list with the constants and their values, or answers the fault.
     pub fn solve(&mut self, unit: &Unit<'_>, known: &mut Bounded<Known, 12>) -> Result<(), Fault>
         ensures { told result (held known.new) ≡ solved unit.now.tokens.now (sees unit.now) unit.now.own.now }
@@ -121,12 +117,6 @@ impl Solver {
         keep_constants(unit.own, &mut self.constants);
         keep_lines(&self.constants, &mut self.keys);
         keep_needs(unit.tokens, &self.constants, &mut self.needs);
-        settle(
-            unit,
-            &self.constants,
-            self.keys.as_slice(),
-            self.needs.as_slice(),
-            known,
-        )
+        self.settle(unit, known)
     }
 }

@@ -1,21 +1,8 @@
-use Rattle.std.proofs.Common.{false, Some, rules}
+use Rattle.std.proofs.Common.{rules}
 use borrow.Author.Tests.{tests}
-use Rattle.std.proofs.lemmas.Iterator.{YieldsList-from_slice, YieldsList-from_map, YieldsList-from_zip}
-use Rattle.std.proofs.lemmas.Iterator.Adapters.{YieldsList-from_once}
-use Rattle.std.proofs.lemmas.Iterator.Consumers.{YieldsList-at, YieldsList-from_chain}
-use Rattle.std.proofs.lemmas.Iterator.Search.{all_from_yields_List}
-use Rattle.grammar.specs.Line.{opens}
 use Rattle.scope.specs.Sees.{sees}
 use Rattle.scope.specs.Uses.{useful}
 use Rattle.scope.proofs.unit.Unit.all_useful.Goals as goal
 
 pub returns : goal.returns
-returns c =
-    all_from_yields_List (λ p. useful c.args.self.now.own.now (sees c.args.self.now) p.0 p.1) c.all.new.self _ _ c.all.ensures.ran
-    (YieldsList-from_zip
-    (YieldsList-at c.zip.ensures.first (YieldsList-from_chain
-    (YieldsList-at c.chain.ensures.first (YieldsList-from_once (Some false) (cc)))
-    (YieldsList-from_map _ opens (YieldsList-from_slice c.args.tokens.now (cc)) (cc) (λ x r q k. search (rules, tests)))
-    (cc) (cc)))
-    (YieldsList-from_slice c.args.tokens.now (cc)))
-    (λ x b q k. search (rules, tests))
+returns c = c.all_called.ensures (useful c.args.self.now.own.now (sees c.args.self.now)) (λ called t b k. search (rules, tests))
