@@ -15,7 +15,7 @@ pub struct Workshop {
 }
 
 // Where a build ended, and why.
-#[derive(Clone, Copy)]
+#[derive(Clone, Copy, Debug, PartialEq, Eq)]
 pub struct Halt {
     pub unit: Name,
     pub stop: Stop,
