@@ -1,36 +1,17 @@
 -- A store's pairs after a put, in whatever order.
-use Rattle.std.proofs.Common.{◌≡◌, ℕ, suc, ◌+◌, Bool, true, false, cond, eqb, List, [], ◌∷◌, length, is_some, Some, sym, refl, ap, ◌∙◌, arith}
+use Rattle.std.proofs.Common.{◌≡◌, ℕ, suc, ◌+◌, Bool, true, false, cond, eqb, List, ◌∷◌, length, Some, sym, refl, ap, ◌∙◌, arith}
 use Rattle.std.specs.Str.{bytes_eq}
-use Rattle.std.proofs.lemmas.Slice.Eq.{bytes_eq-Decides}
 use Rattle.store.specs.Pairs.{Pair, pair, lookup, has, without, SamePairs}
 use Rattle.store.specs.Says.{put_pairs}
+use Rattle.store.proofs.Pairs.{lookup_without_other, length_without}
 use Rattle.ledger.specs.Stored.{view, view_put}
-
--- the other names keep their records
-lookup-without : (q p : List ℕ) (ps : List Pair) → bytes_eq q p ≡ false → lookup (without q ps) p ≡ lookup ps p
-lookup-without q p [] h = refl
-lookup-without q p (x ∷ ps) h = by (bytes_eq x.key q) refl (lookup-without q p ps h)
-  where
-    by : (b : Bool) → bytes_eq x.key q ≡ b → lookup (without q ps) p ≡ lookup ps p → lookup (cond b ps (x ∷ without q ps)) p ≡ lookup (x ∷ ps) p
-    by true k r =
-        let is : x.key ≡ q = (bytes_eq-Decides x.key q).0 k in
-        sym (ap (λ c. cond c (Some x.bytes) (lookup ps p)) (ap (λ y. bytes_eq y p) is ∙ h))
-    by false k r = ap (λ y. cond (bytes_eq x.key p) (Some x.bytes) y) r
-
-length_without : (q : List ℕ) (ps : List Pair) → length (without q ps) + cond (has ps q) 1 0 ≡ length ps
-length_without q [] = omega arith
-length_without q (x ∷ ps) = by (bytes_eq x.key q) (length_without q ps)
-  where
-    by : (b : Bool) → length (without q ps) + cond (has ps q) 1 0 ≡ length ps → length (cond b ps (x ∷ without q ps)) + cond (is_some (cond b (Some x.bytes) (lookup ps q))) 1 0 ≡ suc (length ps)
-    by true r = omega arith
-    by false r = omega arith
 
 put_view : (q bs : List ℕ) (ps : List Pair) → view (pair q bs ∷ without q ps) ≡ view_put q bs (view ps)
 put_view q bs ps = λ i. record { at = λ p. here p (bytes_eq q p) refl i; number = count (has ps q) (length_without q ps) i }
   where
     here : (p : List ℕ) (b : Bool) → bytes_eq q p ≡ b → cond (bytes_eq q p) (Some bs) (lookup (without q ps) p) ≡ cond (bytes_eq q p) (Some bs) (lookup ps p)
     here p true e = ap (λ c. cond c (Some bs) (lookup (without q ps) p)) e ∙ sym (ap (λ c. cond c (Some bs) (lookup ps p)) e)
-    here p false e = ap (λ y. cond (bytes_eq q p) (Some bs) y) (lookup-without q p ps e)
+    here p false e = ap (λ y. cond (bytes_eq q p) (Some bs) y) (lookup_without_other q p ps e)
 
     count : (b : Bool) → length (without q ps) + cond b 1 0 ≡ length ps → suc (length (without q ps)) ≡ length ps + cond b 0 1
     count true r = omega arith

@@ -46,6 +46,7 @@ impl Workshop {
     }
 
     // The unit at a place of the project, if there is one.
+    // kept with four parameters: they are the parts of one call, and a struct of them would be made for that call alone
     fn build_at<T: Translator, S: Store>(
         &mut self,
         translator: &mut T,
@@ -79,6 +80,7 @@ impl Workshop {
     }
 
     // Builds all units at these places, in order, until one fails.
+    // kept with four parameters: they are the parts of one call, and a struct of them would be made for that call alone
     pub fn build<T: Translator, S: Store>(
         &mut self,
         translator: &mut T,

@@ -1,5 +1,5 @@
 // The products of the units built so far.
-ghost use Rattle.std.specs.Prelude.{◌≡◌, [], ◌∷◌, ◌++◌, length, is_ok, IfOk, if◌then◌else◌, nat_lt};
+ghost use Rattle.std.specs.Prelude.{◌≡◌, [], ◌∷◌, ◌++◌, length, is_ok, IfOk, OnErr, if◌then◌else◌, nat_lt};
 ghost use Rattle.product.specs.Parts.{rows, parts, no_parts};
 ghost use Rattle.std.specs.Option.{option_map};
 ghost use Rattle.std.specs.List.{slice_get};
@@ -66,6 +66,7 @@ impl Done {
     pub fn push(&mut self, name: Name, product: &mut Product) -> Result<(), Full>
         ensures fits { is_ok result ≡ nat_lt (length (done_list self.old)) 24 }
         ensures after { done_list self.new ≡ (if is_ok result then done_list self.old ++ (record { unit = name; parts = parts product.old }) ∷ [] else done_list self.old) }
+        ensures refused { OnErr result (parts product.new ≡ parts product.old) }
     {
         if self.units.len() >= 24 {
             return Err(Full);

@@ -20,6 +20,7 @@ impl Desk {
         ensures means { shown result (art self.new.fresh).product ≡ T.Translator.means (art self.old.fresh).source (art self.old.fresh).imports }
         ensures source { (art self.new.fresh).source ≡ (art self.old.fresh).source }
         ensures imports { (art self.new.fresh).imports ≡ (art self.old.fresh).imports }
+        ensures kept { art self.new.kept ≡ art self.old.kept }
         ensures counts { T.Translator.asked translator.new ≡ (T.Translator.asked translator.old + 1) % 2 ^ 64 }
     {
         let fresh = &mut self.fresh;
@@ -33,6 +34,7 @@ impl Desk {
     pub fn keep<S: Store>(&mut self, store: &mut S, name: Name) -> Result<(), Refusal>
         ensures says { PutArt S.Store.LIMIT (S.Store.rows store.old) (view (S.Store.pairs store.old)) (view (S.Store.pairs store.new)) name.bytes (art self.old.fresh) (answer result) }
         ensures fresh { art self.new.fresh ≡ art self.old.fresh }
+        ensures kept { art self.new.kept ≡ art self.old.kept }
         ensures rows { S.Store.rows store.new ≡ S.Store.rows store.old }
     {
         self.fresh.write(&mut self.record);

@@ -82,12 +82,14 @@ impl Desk {
 
     // The unit's source and the present interfaces of its imports, with no product yet.
     pub fn prepare(&mut self, done: &Done, unit: &Unit)
-        ensures { art self.new.fresh ≡ record { source = (member unit.now).source; imports = interfaces (done_list done.now) (member unit.now); product = no_parts } }
+        ensures fresh { art self.new.fresh ≡ record { source = (member unit.now).source; imports = interfaces (done_list done.now) (member unit.now); product = no_parts } }
+        ensures kept { art self.new.kept ≡ art self.old.kept }
     {
-        self.fresh.clear();
-        let _ = self.fresh.source.extend(unit.source());
+        let fresh = &mut self.fresh;
+        fresh.clear();
+        let _ = fresh.source.extend(unit.source());
         for name in unit.imports() {
-            let _ = self.fresh.add_import(done.interface(*name));
+            let _ = fresh.add_import(done.interface(*name));
         }
     }
 

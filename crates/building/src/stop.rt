@@ -4,7 +4,7 @@ ghost use Rattle.building.specs.declared.stop.Stop.TheVariants.{Faulty, Unstored
 
 use names::{Fault, Refusal};
 
-#[derive(Clone, Copy)]
+#[derive(Clone, Copy, Debug, PartialEq, Eq)]
 pub enum Stop {
     // its source has a fault
     Faulty(Fault),

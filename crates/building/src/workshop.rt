@@ -7,6 +7,7 @@ use names::Name;
 
 // What a build goes through: a desk for the unit at hand, the units that have their product, and what became of each.
 // A build is lent the translator and the store, which are of any types and stay its caller's.
+// kept as two parameters: a struct that lends both would have each clause speak of what it borrows in place of `translator` and `store`, and each of the six functions hands both on
 #[derive(Drop)]
 pub struct Workshop {
     pub(crate) desk: Desk,
@@ -15,7 +16,7 @@ pub struct Workshop {
 }
 
 // Where a build ended, and why.
-#[derive(Clone, Copy)]
+#[derive(Clone, Copy, Debug, PartialEq, Eq)]
 pub struct Halt {
     pub unit: Name,
     pub stop: Stop,

@@ -1,4 +1,4 @@
-use building::{Mark, Stop, Workshop};
+use building::{Halt, Mark, Stop, Workshop};
 use formula::Formula;
 use image::Image;
 use linker::Assembler;
@@ -57,8 +57,8 @@ fn opened(rt: &HostRuntime) -> Result<Bench, Fail> {
     })
 }
 
-// Builds the project: nothing, or the unit at which the build ended, and why.
-fn build(b: &mut Bench, project: &Project) -> Result<Option<(Name, Stop)>, Fail> {
+// Builds the project, or tells where the build ended, and why.
+fn build(b: &mut Bench, project: &Project) -> Result<Result<(), Halt>, Fail> {
     b.links
         .check(project)
         .map_err(|_| Fail::new("the project cannot be linked"))?;
@@ -66,24 +66,24 @@ fn build(b: &mut Bench, project: &Project) -> Result<Option<(Name, Stop)>, Fail>
     if places.len() > 24 {
         return Err(Fail::new("too many places"));
     }
-    let built = b
-        .workshop
-        .build(&mut b.formula, &mut b.store, project, places);
-    Ok(built.err().map(|halt| (halt.unit, halt.stop)))
+    Ok(
+        b.workshop
+            .build(&mut b.formula, &mut b.store, project, places),
+    )
 }
 
 #[test]
 fn a_build_translates_what_changed_and_keeps_the_rest(rt: HostRuntime) -> Result<(), Fail> {
     let mut project = demo(&rt)?;
     let mut b = opened(&rt)?;
-    assert!(rt; build(&mut b, &project)?.is_none());
+    assert!(rt; build(&mut b, &project)?.is_ok());
     assert_eq!(rt; b.workshop.marks(), [Mark::Translated; 3].as_slice());
-    assert!(rt; build(&mut b, &project)?.is_none());
+    assert!(rt; build(&mut b, &project)?.is_ok());
     assert_eq!(rt; b.workshop.marks(), [Mark::Kept; 3].as_slice());
     let limits = named(b"limits")?;
     let shifted = b"formula\nfun left = (/ (* (- x 1:low) 999) (- 1:full 1:low))\n";
     put(&mut project, named(b"curve")?, &[limits], shifted)?;
-    assert!(rt; build(&mut b, &project)?.is_none());
+    assert!(rt; build(&mut b, &project)?.is_ok());
     assert_eq!(rt;
         b.workshop.marks(),
         [Mark::Kept, Mark::Translated, Mark::Kept].as_slice()
@@ -101,9 +101,9 @@ fn a_build_ends_at_the_first_fault(rt: HostRuntime) -> Result<(), Fail> {
         &[named(b"limits")?],
         b"formula\nfun left = (\n",
     )?;
-    let (unit, stop) = build(&mut b, &project)?.ok_or("no fault")?;
-    assert!(rt; unit == named(b"curve")?);
-    assert!(rt; matches!(stop, Stop::Faulty(_)));
+    let halt = build(&mut b, &project)?.err().ok_or("no fault")?;
+    assert_eq!(rt; halt.unit, named(b"curve")?);
+    assert!(rt; matches!(halt.stop, Stop::Faulty(_)));
     assert_eq!(rt;
         b.workshop.marks(),
         [Mark::Translated, Mark::Failed].as_slice()
@@ -115,7 +115,7 @@ fn a_build_ends_at_the_first_fault(rt: HostRuntime) -> Result<(), Fail> {
 fn what_was_built_is_linked(rt: HostRuntime) -> Result<(), Fail> {
     let project = demo(&rt)?;
     let mut b = opened(&rt)?;
-    assert!(rt; build(&mut b, &project)?.is_none());
+    assert!(rt; build(&mut b, &project)?.is_ok());
     let mut image = Image::open(rt.alloc())?;
     let mut assembler = Assembler::open(rt.alloc())?;
     assert!(rt;

@@ -1,10 +1,9 @@
 -- Units put together one after the other.
-use Rattle.std.proofs.Common.{◌≡◌, ℕ, zero, suc, ◌+◌, ◌<◌, ◌≤◌, List, [], ◌∷◌, ◌++◌, map, length, get_or, take, drop, Some, None, Ok, Err, Option, Result, unwrap_or, sym, refl, ap, ◌∙◌, subst, inl, inr, add-zero, add_assoc, one-add, arith}
+use Rattle.std.proofs.Common.{◌≡◌, ℕ, zero, suc, ◌+◌, ◌<◌, ◌≤◌, List, [], ◌∷◌, ◌++◌, map, length, get_or, take, drop, Some, None, Ok, Err, Option, Result, unwrap_or, sym, refl, ap, ◌∙◌, subst, add-zero, add_assoc, one-add, arith}
 use Rattle.std.specs.Option.{option_map, option_to_list, option_and_then}
 use Rattle.std.specs.List.{slice_get}
 use Rattle.std.proofs.lemmas.List.{take_more, take_all, drop_more, drop_all, length-map, length-take-le}
-use Rattle.std.proofs.lemmas.Option.{slice_get-get_or, slice_get_past, slice_get-map, none-some, same_Some}
-use Rattle.std.proofs.lemmas.Bool.{cases_lt}
+use Rattle.std.proofs.lemmas.Option.{slice_get_within, get_or_from_slice_get, slice_get-map, none-some, same_Some}
 use Rattle.names.specs.declared.name.Name.{Name}
 use Rattle.product.specs.declared.row.Reference.{Reference}
 use Rattle.image.specs.declared.target.Target.{Target}
@@ -21,11 +20,7 @@ use Rattle.linker.specs.Assembled.{entries_of, targets_of, Added}
 -- ---- an element at a place
 
 pub here : {X : Type 0} (xs : List X) (k : ℕ) (x : X) → slice_get xs k ≡ Some x → (k < length xs) × (get_or xs k x ≡ x)
-here xs k x e =
-    elim (cases_lt k (length xs)) [
-      | inl h ↦ (h, let a = slice_get-get_or xs k x h in cc)
-      | inr h ↦ absurd (none-some x (sym (slice_get_past xs k h) ∙ e))
-    ]
+here xs k x e = (slice_get_within xs k x e, get_or_from_slice_get xs k x x e)
 
 pub some_at : {X : Type 0} (xs : List X) (k : ℕ) → k < length xs → (x : X) × (slice_get xs k ≡ Some x)
 some_at [] k h = absurd (omega arith)

@@ -3,7 +3,7 @@ use image::Target;
 use names::Name;
 
 // A reference whose entry is missing in its target: the unit that makes it, and its number there.
-#[derive(Clone, Copy)]
+#[derive(Clone, Copy, Debug, PartialEq, Eq)]
 pub struct Missing {
     pub unit: Name,
     pub reference: u8,

@@ -55,6 +55,7 @@ impl Assembler {
     }
 
     // The unit, the i-th in link order, behind those of the image; or the first of its references whose entry is missing.
+    // kept with four parameters: they are the parts of one call, and a struct of them would be made for that call alone
     fn add_unit(
         &mut self,
         i: usize,

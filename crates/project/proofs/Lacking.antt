@@ -1,5 +1,6 @@
 -- The smallest unit that lacks an import.
-use Rattle.std.proofs.Common.{◌≡◌, ℕ, suc, ◌+◌, ◌<◌, Bool, true, false, not, List, length, is_some, Some, None, Option, sym, refl, ap, ◌∙◌, add-one, arith}
+use Rattle.std.proofs.Common.{◌≡◌, ℕ, suc, ◌+◌, ◌<◌, true, false, not, List, length, is_some, Some, None, Option, sym, ap, ◌∙◌, add-one, arith}
+use mathlib.Core.Bool.{not-not}
 use Rattle.std.specs.Option.{option_map, option_map_or, unwrap_or}
 use Rattle.std.specs.List.{slice_get}
 use Rattle.std.proofs.lemmas.List.{length-map}
@@ -15,10 +16,6 @@ use Rattle.project.specs.Checked.{Verdict, missing, names, lack, lacks, lack_at}
 pub lacks-there : (vs us : List Member) (i : ℕ) (u : Member) → slice_get us i ≡ Some u → lacks vs us i ≡ is_some (lack vs u.imports)
 lacks-there vs us i u e = ap (λ o. option_map_or (λ (v : Member). is_some (lack vs v.imports)) o false) e
 
-twice : (b : Bool) → not (not b) ≡ b
-twice true = refl
-twice false = refl
-
 module _ (vs : List Member) where
   -- the smallest of those that are not whole
   pub found : (keys : List Name) (whole listed : List ℕ) (r : Option ℕ) → r ≡ left name_cmp keys listed → keys ≡ names vs → listed ≡ whole → ((k : ℕ) → k < length vs → placed whole k ≡ not (lacks vs vs k)) → r ≡ smallest name_cmp (lacks vs vs) (names vs)
@@ -26,7 +23,7 @@ module _ (vs : List Member) where
       let all : length (names vs) ≡ length vs = length-map vs (λ (v : Member). v.name) in
       e
       ∙ (λ j. left name_cmp (f j) (g j))
-      ∙ smallest-same by_name (λ i. not (placed whole i)) (lacks vs vs) (names vs) (λ i l. sym (ap not (h i (omega arith)) ∙ twice (lacks vs vs i)))
+      ∙ smallest-same by_name (λ i. not (placed whole i)) (lacks vs vs) (names vs) (λ i l. sym (ap not (h i (omega arith)) ∙ not-not (lacks vs vs i)))
 
   -- the verdict at a unit that lacks an import
   abbrev pub said : ℕ → Verdict

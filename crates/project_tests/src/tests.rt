@@ -1,4 +1,4 @@
-use names::Name;
+use names::{Name, Refusal};
 use project::{Links, Project};
 use std::fmt::Write;
 use std::test::*;
@@ -8,11 +8,16 @@ fn named(text: &[u8]) -> Result<Name, Fail> {
 }
 
 fn refused(text: &[u8]) -> bool {
-    Name::from_text(text).is_err_and(|refusal| refusal.number() == 11)
+    Name::from_text(text).is_err_and(|refusal| refusal == Refusal::NotAName)
 }
 
-// Puts a unit that a line names: its name, then its imports. Answers the refusal's number, or 0.
-fn put(rt: &HostRuntime, project: &mut Project, line: &str, source: &[u8]) -> Result<u8, Fail> {
+// Puts a unit that a line names: its name, then its imports. Answers the refusal, if it is refused.
+fn put(
+    rt: &HostRuntime,
+    project: &mut Project,
+    line: &str,
+    source: &[u8],
+) -> Result<Option<Refusal>, Fail> {
     let mut imports = Vec::new(rt.alloc());
     let names = (1..line.len()).map_while(|place| words::word(line.as_bytes(), place));
     for word in names {
@@ -20,14 +25,14 @@ fn put(rt: &HostRuntime, project: &mut Project, line: &str, source: &[u8]) -> Re
     }
     let word = words::word(line.as_bytes(), 0).ok_or("no unit")?;
     let put = project.put(named(word)?, imports.as_slice(), source);
-    Ok(put.err().map_or(0, |refusal| refusal.number()))
+    Ok(put.err())
 }
 
 // The link order of a project, one unit a line, in words.
 fn order(rt: &HostRuntime, lines: &str) -> Result<String, Fail> {
     let mut project = Project::open(rt.alloc())?;
     for line in lines.lines() {
-        if put(rt, &mut project, line, b"")? != 0 {
+        if put(rt, &mut project, line, b"")?.is_some() {
             return Err(Fail::new("a unit was refused"));
         }
     }
@@ -107,11 +112,20 @@ fn repeated_imports_are_one_need(rt: HostRuntime) -> Result<(), Fail> {
 #[test]
 fn put_refuses_in_order(rt: HostRuntime) -> Result<(), Fail> {
     let mut project = Project::open(rt.alloc())?;
-    assert_eq!(rt; put(&rt, &mut project, "a", &[0; 512])?, 0);
-    assert_eq!(rt; put(&rt, &mut project, "a", &[0; 513])?, 12);
-    assert_eq!(rt; put(&rt, &mut project, "a b c d e f", &[0; 513])?, 12);
-    assert_eq!(rt; put(&rt, &mut project, "a b c d e f", &[0; 512])?, 13);
-    assert_eq!(rt; put(&rt, &mut project, "a b c d e", &[0; 512])?, 0);
+    assert_eq!(rt; put(&rt, &mut project, "a", &[0; 512])?, None);
+    assert_eq!(rt;
+        put(&rt, &mut project, "a", &[0; 513])?,
+        Some(Refusal::SourceTooLong)
+    );
+    assert_eq!(rt;
+        put(&rt, &mut project, "a b c d e f", &[0; 513])?,
+        Some(Refusal::SourceTooLong)
+    );
+    assert_eq!(rt;
+        put(&rt, &mut project, "a b c d e f", &[0; 512])?,
+        Some(Refusal::TooManyImports)
+    );
+    assert_eq!(rt; put(&rt, &mut project, "a b c d e", &[0; 512])?, None);
     Ok(())
 }
 
@@ -120,12 +134,15 @@ fn a_project_has_24_units(rt: HostRuntime) -> Result<(), Fail> {
     let mut project = Project::open(rt.alloc())?;
     for i in 0..24u8 {
         let text = format!(in rt.alloc(); "u{i}")?;
-        assert_eq!(rt; put(&rt, &mut project, text.as_str(), b"")?, 0);
+        assert_eq!(rt; put(&rt, &mut project, text.as_str(), b"")?, None);
     }
-    assert_eq!(rt; put(&rt, &mut project, "more", b"")?, 14);
-    assert_eq!(rt; put(&rt, &mut project, "u7 u8", b"")?, 0);
+    assert_eq!(rt;
+        put(&rt, &mut project, "more", b"")?,
+        Some(Refusal::TooManyUnits)
+    );
+    assert_eq!(rt; put(&rt, &mut project, "u7 u8", b"")?, None);
     assert!(rt; project.remove(named(b"more")?).is_err());
     assert!(rt; project.remove(named(b"u3")?).is_ok());
-    assert_eq!(rt; put(&rt, &mut project, "more", b"")?, 0);
+    assert_eq!(rt; put(&rt, &mut project, "more", b"")?, None);
     Ok(())
 }

@@ -7,4 +7,4 @@ use Rattle.building.proofs.Prepared.{prepared}
 use Rattle.building.proofs.desk.Desk.prepare.Given as goal
 
 abbrev pub invariant-loop-name : goal.invariant-loop-name
-invariant-loop-name l = art l.self.fresh ≡ prepared (member l.unit).source (interface_of (done_list l.done)) (member l.unit).imports l.name-index
+invariant-loop-name l = art l.fresh ≡ prepared (member l.unit).source (interface_of (done_list l.done)) (member l.unit).imports l.name-index

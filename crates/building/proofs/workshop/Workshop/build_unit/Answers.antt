@@ -22,9 +22,9 @@ returns-then-is_err-clause-built g c = λ few.
     let qs = g.S.Store.pairs c.recall.new.store in
     let none : current m u (interfaces ds u) (artifact_in (lookup qs u.name.bytes)) ≡ None =
     ap (λ xs. current m u (interfaces ds u) (artifact_in (lookup xs u.name.bytes))) c.recall.ensures.pairs
-    ∙ current_is m u (interfaces ds u) (art c.prepare.new.self.fresh) (artifact_in (lookup ps u.name.bytes)) c.prepare.ensures
+    ∙ current_is m u (interfaces ds u) (art c.prepare.new.self.fresh) (artifact_in (lookup ps u.name.bytes)) c.prepare.ensures.fresh
     ∙ ap (λ (n : Name). current_to g.T.Translator.same (art c.prepare.new.self.fresh) (artifact_in (lookup ps n.bytes))) (sym c.name-name.ensures)
     ∙ sym c.recall.ensures.finds
     ∙ got_none c.recall.result (art c.recall.new.self.kept) c.if-is_err.ensures.value in
     from_here m g.S.Store.LIMIT (g.S.Store.rows c.args.store.now) (g.S.Store.rows c.recall.new.store) u ds (done_list c.make_unit.new.self.done) ps qs (view (g.S.Store.pairs c.make_unit.new.store)) c.make_unit.result c.recall.ensures.rows c.recall.ensures.pairs
-    (c.make_unit.ensures.built few u (sym c.name-name.ensures) (c.recall.ensures.fresh ∙ c.prepare.ensures) none)
+    (c.make_unit.ensures.built few u (sym c.name-name.ensures) (c.recall.ensures.fresh ∙ c.prepare.ensures.fresh) none)
