@@ -11,6 +11,7 @@ impl<T, const N: usize> Column<T, N> {
     pub(crate) fn get(&self, unit: usize) -> &[T]
         ensures { result.now ≡ slice_index_or (lists self.now) unit [] }
     {
+        // kept as a match: a closure over any T is known by an `ensures` of its own only, which is no plainer
         match self.lists.as_slice().get(unit) {
             Some(list) => list.as_slice(),
             None => &[],
