@@ -1,16 +1,21 @@
 -- What a mark, a slide and a new record at the end leave of a log.
-use Rattle.std.proofs.Common.{◌≡◌, ℕ, zero, suc, ◌+◌, ◌*◌, ◌<◌, ◌≤◌, Bool, true, false, cond, not, ◌&&◌, ◌||◌, eqb, ltb, leb, List, [], ◌∷◌, ◌++◌, length, get_or, take, set, is_some, sym, refl, ap, ◌∙◌, subst, arith, length-append, length-set}
+use Rattle.std.proofs.Common.{◌≡◌, ℕ, zero, suc, ◌+◌, ◌*◌, ◌<◌, ◌≤◌, Bool, true, false, cond, not, ◌&&◌, ◌||◌, eqb, ltb, leb, List, [], ◌∷◌, ◌++◌, length, get_or, take, set, is_some, vec_len, sym, refl, ap, ◌∙◌, subst, arith, length-append, length-set}
 use Rattle.std.proofs.lemmas.Bool.{true≢false, and_parts, and_from, eq-eqb, le-leb, lt-leb, or_parts, leb-false, leb-true, ltb-false, le-ltb, lt-ltb}
 use Rattle.std.proofs.lemmas.List.{append-nil, get_or-set_other, set_at, length-take-le, take_all}
 use Rattle.std.proofs.lemmas.List.Edits.{take-paste}
 use Rattle.store.specs.Pairs.{Pair, pair, has, without, once, SamePairs}
 use Rattle.store.proofs.Pairs.{by_test, same_refl, has-append, once_out, once_in, without_at, lookup-at, length_in, moved, lookup_without_same, length_without}
 use Rattle.store.specs.Says.{PutSays}
-use Rattle.area.specs.Layout.{header_size, slot_size, laid, lay_number, content, holds, held, written}
+use Rattle.area.specs.Layout.{header_size, slot_size, rows_of, laid, lay_number, content, holds, held, written}
 use Rattle.area.proofs.Records.{held-laid, length-laid, eight}
 use Rattle.log_store.specs.Chain.{records, bytes_of, exact, all_exact, log_pairs, marked, lives, with_room, PlaceOf}
+use Rattle.log_store.specs.declared.logs.LogStore.{LogStore}
 use Rattle.log_store.proofs.Slid.{lives_le}
 use Rattle.log_store.proofs.Chained.{held_of, records_back, records_bytes, bytes_append, pairs_append, exact-append, exact-parts, exact_long, exact_short, exact-lives, pairs_lives, lives_short}
+
+-- as many rows as long as the area is as long
+pub same_rows : (s t : LogStore) → vec_len t.area ≡ vec_len s.area → t.rows ≡ s.rows
+same_rows s t e = t.counted ∙ ap rows_of e ∙ sym s.counted
 
 and_true : (b : Bool) → (b && true) ≡ b
 and_true true = refl
