@@ -7,11 +7,11 @@ use Rattle.store.specs.Pairs.{Pair, pair, has, without, once, SamePairs}
 use Rattle.store.proofs.Pairs.{by_test, same_refl, has-append, once_out, once_in, without_at, lookup-at, length_in, moved, lookup_without_same, length_without}
 use Rattle.store.specs.Says.{PutSays}
 use Rattle.area.specs.Layout.{header_size, slot_size, rows_of, laid, lay_number, content, holds, held, written}
-use Rattle.area.proofs.Records.{held-laid, length-laid, eight}
+use Rattle.area.proofs.Records.{held_of, held-laid, length-laid, eight}
 use Rattle.log_store.specs.Chain.{records, bytes_of, exact, all_exact, log_pairs, marked, lives, with_room, PlaceOf}
 use Rattle.log_store.specs.declared.logs.LogStore.{LogStore}
 use Rattle.log_store.proofs.Slid.{lives_le}
-use Rattle.log_store.proofs.Chained.{held_of, records_back, records_bytes, bytes_append, pairs_append, exact-append, exact-parts, exact_long, exact_short, exact-lives, pairs_lives, lives_short}
+use Rattle.log_store.proofs.Chained.{records_back, records_bytes, bytes_append, pairs_append, exact-append, exact-parts, exact_long, exact_short, exact-lives, pairs_lives, lives_short}
 
 -- as many rows as long as the area is as long
 pub same_rows : (s t : LogStore) → vec_len t.area ≡ vec_len s.area → t.rows ≡ s.rows
