@@ -24,6 +24,7 @@ impl<T, const N: usize> Column<T, N> {
         ensures value { result ≡ length (flat (lists self.now)) }
         ensures few { result ≤ 9216 }
     {
+        // kept as a loop: over any T the closure of a `map` before `sum` needs an `ensures` of its own, which is no plainer
         let mut sum = 0;
         for list in self.lists.as_slice() {
             sum += list.len();
