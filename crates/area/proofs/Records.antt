@@ -1,12 +1,15 @@
 -- A record read where it was laid.
-use Rattle.std.proofs.Common.{◌≡◌, ℕ, ◌+◌, ◌/◌, ◌%◌, ◌≤◌, List, [], ◌∷◌, ◌++◌, length, get_or, take, drop, sym, refl, ap, ◌∙◌, subst, arith, length-append}
+use Rattle.std.proofs.Common.{◌≡◌, ℕ, ◌+◌, ◌/◌, ◌%◌, ◌≤◌, true, false, List, [], ◌∷◌, ◌++◌, length, get_or, take, drop, sym, refl, ap, ◌∙◌, subst, arith, length-append}
 use lib.Seq.{paste}
 use borrow.Rule.Slice.PartMut.{put_mid}
 use Rattle.std.proofs.lemmas.Slice.{put_mid-paste}
 use Rattle.std.proofs.lemmas.List.Edits.{paste-paste}
 use Rattle.std.proofs.lemmas.List.{take_at}
-use Rattle.store.specs.Pairs.{pair}
-use Rattle.area.specs.Layout.{header_size, laid, key, size, content, held, written}
+use Rattle.std.specs.Str.{bytes_eq}
+use Rattle.std.proofs.lemmas.Bool.{and_parts}
+use Rattle.store.specs.Pairs.{pair, has}
+use Rattle.store.proofs.Pairs.{by_test, same_is}
+use Rattle.area.specs.Layout.{header_size, laid, live, key, size, content, holds, held, written}
 
 -- the eight bytes of a name one by one
 pub eight : (q : List ℕ) → length q ≡ 8 → get_or q 0 0 ∷ get_or q 1 0 ∷ get_or q 2 0 ∷ get_or q 3 0 ∷ get_or q 4 0 ∷ get_or q 5 0 ∷ get_or q 6 0 ∷ get_or q 7 0 ∷ [] ≡ q
@@ -50,3 +53,14 @@ held-laid q bs rest e = λ i. pair (key-laid q bs rest e i) (content-laid q bs r
 
 pub length-laid : (q bs : List ℕ) → length q ≡ 8 → length (laid q bs) ≡ header_size + length bs
 length-laid q bs e = simp length-append (omega arith)
+
+-- no pair of the name in a record that does not hold it
+pub has-held : (p q : List ℕ) → holds p q ≡ false → has (held p) q ≡ false
+has-held p q h = by_test (live p) (λ e. let apart : bytes_eq (key p) q ≡ false = simp e at h in simp (e, apart)) (λ e. simp e)
+
+-- the pair of a record that holds the name
+pub held_of : (p q : List ℕ) → holds p q ≡ true → held p ≡ pair q (content p) ∷ []
+held_of p q h =
+    let parts = and_parts (live p) (bytes_eq (key p) q) h in
+    let l : live p ≡ true = parts.0 in
+    simp l (ap (λ (x : List ℕ). pair x (content p) ∷ []) (same_is (key p) q parts.1))

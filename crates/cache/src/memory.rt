@@ -82,6 +82,7 @@ impl Copies {
         requires { i < vec_len self.old.latest }
         ensures { kept self.new ≡ to_front i (kept self.old) }
     {
+        // kept as a removal: `latest[..=i].rotate_right(1)` was tried, and its proof did not close, as no fact names the list after it
         let copied = self.latest.remove(i);
         self.latest.push_reserved(copied);
         self.latest.rotate_right(1);
@@ -89,6 +90,7 @@ impl Copies {
 }
 
 // The memory of a free place, or else of the oldest copy.
+// Kept as a function of the two lists: a place is out of both then, which a `Copies` does not allow.
 fn free_place(
     latest: &mut Vec<Copied>,
     spare: &mut Vec<Bounded<u8, LONGEST>>,

@@ -7,6 +7,7 @@ ghost use Rattle.codec.specs.Pieces.{lays_none, lays_both};
 use crate::sink::Sink;
 
 // A buffer, and the place in it that the next byte comes to.
+// Kept as a place: the bytes before it are told of by `Takes`, and the rest of the buffer alone would say nothing of them.
 #[derive(Drop)]
 pub struct Buffer<'a> {
     pub bytes: &'a mut [u8],

@@ -44,6 +44,8 @@ pub trait Count {
     }
 }
 
+// Kept as two impls with like bodies: for any type `try_from` promises nothing by itself, and laws that tie it to `limit` and `format`
+// would be no plainer.
 impl Count for u8 {
     ghost format = { byte };
 

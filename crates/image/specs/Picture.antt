@@ -1,6 +1,6 @@
 -- Images as parts, and their one writing.
-use Rattle.std.specs.Prelude.{◌≡◌, ℕ, ◌<◌, ◌≤◌, Bool, true, cond, not, ◌&&◌, List, [], ◌∷◌, ◌++◌, length, Some, None, Option, ◌==◌, nat_lt, slice_index_or}
-use Rattle.std.specs.List.{AllByRecursion, list_all, list_any, zip}
+use Rattle.std.specs.Prelude.{◌≡◌, ℕ, ◌<◌, ◌≤◌, Bool, true, cond, not, ◌&&◌, List, [], ◌∷◌, ◌++◌, length, take, Some, None, Option, ◌==◌, nat_lt, slice_index_or}
+use Rattle.std.specs.List.{AllByRecursion, enumerate_from, list_all, list_any, zip}
 use Rattle.std.specs.Str.{bytes_eq}
 use Rattle.bounded.specs.Held.{held}
 use Rattle.names.specs.declared.name.Name.{Name}
@@ -59,8 +59,7 @@ among n = list_any (λ m. bytes_eq m.bytes n.bytes)
 
 -- whether no name stands twice
 abbrev pub different : List Name → Bool
-different [] = true
-different (n ∷ ns) = not (among n ns) && different ns
+different ns = list_all (λ p. not (among p.1 (take p.0 ns))) (enumerate_from 0 ns)
 
 -- whether the entries of each unit stand in its code
 abbrev pub placed : List (List ℕ) → List (List ℕ) → Bool

@@ -1,25 +1,28 @@
 // What the sections of an image must keep among one another.
-ghost use Rattle.std.specs.Prelude.{◌≡◌};
+ghost use Rattle.std.specs.Prelude.{◌≡◌, take};
 ghost use Rattle.std.specs.List.{list_all};
-ghost use Rattle.image.specs.Picture.{parts, different, placed, present, valid};
+ghost use Rattle.image.specs.Picture.{parts, among, different, placed, present, valid};
 
 use crate::sections::Sections;
 use crate::target::Target;
 use codec::all_below;
 use names::Name;
 
+// Whether a name stands among the first so many.
+fn stands_before(names: &[Name], i: usize, name: &Name) -> bool
+    ensures { result ≡ among name.now (take i names.now) }
+{
+    names.iter().take(i).any(|other| other == name)
+}
+
 // Whether no name stands twice.
 fn all_different(names: &[Name]) -> bool
     ensures { result ≡ different names.now }
 {
-    let mut rest = names;
-    while let Some((name, others)) = rest.split_first() {
-        if others.contains(name) {
-            return false;
-        }
-        rest = others;
-    }
-    true
+    names
+        .iter()
+        .enumerate()
+        .all(|(i, name)| !stands_before(names, i, name))
 }
 
 impl Sections {

@@ -28,6 +28,7 @@ impl Image {
         ensures { IfOk result (λ i. units i ≡ no_units) }
     {
         let names = Bounded::open(heap)?;
+        // kept as three literals: the borrow checker does not cover `Bounded::open` passed on for any type and number
         let codes = Column {
             lists: Pool::open(heap, Bounded::open)?,
             next: Bounded::open(heap)?,

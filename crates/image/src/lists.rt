@@ -11,6 +11,7 @@ impl<T, const N: usize> Column<T, N> {
     pub(crate) fn get(&self, unit: usize) -> &[T]
         ensures { result.now ≡ slice_index_or (lists self.now) unit [] }
     {
+        // kept as a match: a closure over any T is known by an `ensures` of its own only, which is no plainer
         match self.lists.as_slice().get(unit) {
             Some(list) => list.as_slice(),
             None => &[],
@@ -23,6 +24,7 @@ impl<T, const N: usize> Column<T, N> {
         ensures value { result ≡ length (flat (lists self.now)) }
         ensures few { result ≤ 9216 }
     {
+        // kept as a loop: over any T the closure of a `map` before `sum` needs an `ensures` of its own, which is no plainer
         let mut sum = 0;
         for list in self.lists.as_slice() {
             sum += list.len();

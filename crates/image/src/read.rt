@@ -47,6 +47,7 @@ impl Image {
         ensures back { OnOk result ((image_bytes (units self.new) ≡ bytes.now) × WithinUnits (units self.new)) }
         ensures number { answer result ≡ refusing 54 (read bytes.now) }
     {
+        // kept as a match: a `map_err` whose closure empties the sections is no plainer
         match self.sections.read_whole(bytes) {
             Ok(()) => Ok(()),
             Err(Malformed) => {

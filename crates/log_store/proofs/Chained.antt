@@ -1,11 +1,11 @@
 -- Records one behind the other: reading them back, marking one dead, keeping the live ones.
 use Rattle.std.proofs.Common.{◌≡◌, ℕ, zero, suc, ◌+◌, ◌*◌, ◌<◌, ◌≤◌, true, false, eqb, leb, List, [], ◌∷◌, ◌++◌, length, get_or, take, drop, sym, refl, ap, ◌∙◌, append_assoc, arith, length-append, length-drop}
-use Rattle.std.specs.Str.{bytes_eq}
 use Rattle.std.proofs.lemmas.Bool.{and_parts, and_from, eqb-true, leb-true, or_from}
 use Rattle.std.proofs.lemmas.List.{append-nil, take_at, drop_at, take-append-drop, get_or_append_left, nil_from_length}
 use Rattle.store.specs.Pairs.{Pair, pair, has}
-use Rattle.store.proofs.Pairs.{by_test, same_is, has-append}
+use Rattle.store.proofs.Pairs.{by_test, has-append}
 use Rattle.area.specs.Layout.{header_size, slot_size, live, key, size, content, holds, held}
+use Rattle.area.proofs.Records.{has-held}
 use Rattle.log_store.specs.Chain.{chain, records, bytes_of, exact, all_exact, log_pairs, lives}
 
 -- the facts of an exact record
@@ -151,17 +151,8 @@ live_front p r h = let l = exact_long p h in ap (λ (x : ℕ). eqb x 1) (get_or_
 pub bytes_more : (ps : List (List ℕ)) (p : List ℕ) → length (bytes_of (ps ++ p ∷ [])) ≡ length (bytes_of ps) + length p
 bytes_more ps p = ap length (bytes_append ps (p ∷ [])) ∙ length-append (bytes_of ps) (bytes_of (p ∷ [])) ∙ ap (λ (x : List ℕ). length (bytes_of ps) + length x) (append-nil p)
 
-pub has-held : (p q : List ℕ) → holds p q ≡ false → has (held p) q ≡ false
-has-held p q h = by_test (live p) (λ e. let apart : bytes_eq (key p) q ≡ false = simp e at h in simp (e, apart)) (λ e. simp e)
-
 pub has-next : (ps : List (List ℕ)) (p q : List ℕ) → has (log_pairs ps) q ≡ false → holds p q ≡ false → has (log_pairs (ps ++ p ∷ [])) q ≡ false
 has-next ps p q h k =
     ap (λ (x : List Pair). has x q) (pairs_append ps (p ∷ []) ∙ ap (λ (x : List Pair). log_pairs ps ++ x) (append-nil (held p)))
     ∙ has-append (log_pairs ps) (held p) q
     ∙ or_from (has (log_pairs ps) q) (has (held p) q) h (has-held p q k)
-
-pub held_of : (p q : List ℕ) → holds p q ≡ true → held p ≡ pair q (content p) ∷ []
-held_of p q h =
-    let parts = and_parts (live p) (bytes_eq (key p) q) h in
-    let l : live p ≡ true = parts.0 in
-    simp l (ap (λ (x : List ℕ). pair x (content p) ∷ []) (same_is (key p) q parts.1))

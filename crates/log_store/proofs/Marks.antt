@@ -1,20 +1,22 @@
 -- What a mark, a slide and a new record at the end leave of a log.
-use Rattle.std.proofs.Common.{◌≡◌, ℕ, zero, suc, ◌+◌, ◌*◌, ◌<◌, ◌≤◌, Bool, true, false, cond, not, ◌&&◌, ◌||◌, eqb, ltb, leb, List, [], ◌∷◌, ◌++◌, length, get_or, take, set, is_some, sym, refl, ap, ◌∙◌, subst, arith, length-append, length-set}
+use Rattle.std.proofs.Common.{◌≡◌, ℕ, zero, suc, ◌+◌, ◌*◌, ◌<◌, ◌≤◌, true, false, cond, not, ◌&&◌, ◌||◌, eqb, ltb, leb, List, [], ◌∷◌, ◌++◌, length, get_or, take, set, is_some, vec_len, sym, refl, ap, ◌∙◌, subst, arith, length-append, length-set}
+use Rattle.std.proofs.Math.Bool.{and-true}
 use Rattle.std.proofs.lemmas.Bool.{true≢false, and_parts, and_from, eq-eqb, le-leb, lt-leb, or_parts, leb-false, leb-true, ltb-false, le-ltb, lt-ltb}
 use Rattle.std.proofs.lemmas.List.{append-nil, get_or-set_other, set_at, length-take-le, take_all}
 use Rattle.std.proofs.lemmas.List.Edits.{take-paste}
 use Rattle.store.specs.Pairs.{Pair, pair, has, without, once, SamePairs}
 use Rattle.store.proofs.Pairs.{by_test, same_refl, has-append, once_out, once_in, without_at, lookup-at, length_in, moved, lookup_without_same, length_without}
 use Rattle.store.specs.Says.{PutSays}
-use Rattle.area.specs.Layout.{header_size, slot_size, laid, lay_number, content, holds, held, written}
-use Rattle.area.proofs.Records.{held-laid, length-laid, eight}
+use Rattle.area.specs.Layout.{header_size, slot_size, rows_of, laid, lay_number, content, holds, held, written}
+use Rattle.area.proofs.Records.{held_of, held-laid, length-laid, eight}
 use Rattle.log_store.specs.Chain.{records, bytes_of, exact, all_exact, log_pairs, marked, lives, with_room, PlaceOf}
+use Rattle.log_store.specs.declared.logs.LogStore.{LogStore}
 use Rattle.log_store.proofs.Slid.{lives_le}
-use Rattle.log_store.proofs.Chained.{held_of, records_back, records_bytes, bytes_append, pairs_append, exact-append, exact-parts, exact_long, exact_short, exact-lives, pairs_lives, lives_short}
+use Rattle.log_store.proofs.Chained.{records_back, records_bytes, bytes_append, pairs_append, exact-append, exact-parts, exact_long, exact_short, exact-lives, pairs_lives, lives_short}
 
-and_true : (b : Bool) → (b && true) ≡ b
-and_true true = refl
-and_true false = refl
+-- as many rows as long as the area is as long
+pub same_rows : (s t : LogStore) → vec_len t.area ≡ vec_len s.area → t.rows ≡ s.rows
+same_rows s t e = t.counted ∙ ap rows_of e ∙ sym s.counted
 
 set-take : (n : ℕ) (l : List ℕ) (i a : ℕ) → take n (set l i a) ≡ set (take n l) i a
 set-take zero l i a = refl
@@ -206,7 +208,7 @@ row-left ps q rows u l h =
       ap is_some (lookup_without_same q ps u),
       by_test (has ps q)
           (λ e. let m : length (without q ps) + 1 ≡ length ps = simp e at n in omega arith)
-          (λ e. let m : length (without q ps) + 0 ≡ length ps = simp e at n in let f : (leb rows (length ps) && true) ≡ false = simp e at h in let g : leb rows (length ps) ≡ false = sym (and_true (leb rows (length ps))) ∙ f in omega (arith, leb-false rows (length ps) g)),
+          (λ e. let m : length (without q ps) + 0 ≡ length ps = simp e at n in let f : (leb rows (length ps) && true) ≡ false = simp e at h in let g : leb rows (length ps) ≡ false = sym (and-true (leb rows (length ps))) ∙ f in omega (arith, leb-false rows (length ps) g)),
     )
 
 -- a put that was not refused
@@ -216,7 +218,7 @@ put_goes ps after q bs rows u h short e =
     let free : (has ps q || ltb (length ps) rows) ≡ true =
     by_test (has ps q)
     (λ t. simp t)
-    (λ f. let g : leb rows (length ps) ≡ false = sym (and_true (leb rows (length ps))) ∙ simp f at h in let less : ltb (length ps) rows ≡ true = lt-ltb (length ps) rows (leb-false rows (length ps) g) in simp (f, less)) in
+    (λ f. let g : leb rows (length ps) ≡ false = sym (and-true (leb rows (length ps))) ∙ simp f at h in let less : ltb (length ps) rows ≡ true = lt-ltb (length ps) rows (leb-false rows (length ps) g) in simp (f, less)) in
     let gone : has (without q ps) q ≡ false = ap is_some (lookup_without_same q ps u) in
     let at_end : SamePairs (without q ps ++ pair q bs ∷ []) (pair q bs ∷ without q ps) = subst (λ (x : List Pair). SamePairs (without q ps ++ pair q bs ∷ []) (pair q bs ∷ x)) (append-nil (without q ps)) (moved (without q ps) [] q bs gone) in
     record { outcome = simp (small, free); pairs = subst (λ (x : List Pair). SamePairs x (pair q bs ∷ without q ps)) (sym e) at_end }

@@ -9,7 +9,8 @@ use Rattle.store.specs.Pairs.{Pair, lookup, has}
 use Rattle.store.proofs.Pairs.{by_test, none_from, lookup-at}
 use Rattle.area.specs.Layout.{header_size, size, live, content, holds}
 use Rattle.log_store.specs.Chain.{chain, records, placed, bytes_of, log_pairs, PlaceOf}
-use Rattle.log_store.proofs.Chained.{bytes_more, pairs_append, has-next, held_of}
+use Rattle.area.proofs.Records.{held_of}
+use Rattle.log_store.proofs.Chained.{bytes_more, pairs_append, has-next}
 
 -- as many steps as there are bytes reach the end
 chain_enough : (n m : ℕ) (bs : List ℕ) → length bs ≤ n → length bs ≤ m → chain n bs ≡ chain m bs

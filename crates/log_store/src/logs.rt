@@ -8,6 +8,7 @@ ghost use Rattle.log_store.specs.Chain.{records, all_exact, log_pairs};
 #[derive(Drop)]
 pub struct LogStore {
     pub(crate) area: Vec<u8>,
+    // kept as a field: clauses and searches name it, where the number worked out of the area's length is no plainer
     pub(crate) rows: usize,
     pub(crate) end: usize,
     ghost counted: { rows ≡ rows_of (vec_len area) },

@@ -25,7 +25,6 @@ impl LogStore {
         ensures found { result ≡ has (pairs_of self.old) name.bytes }
         ensures marks { records_of self.new ≡ marked name.bytes (records_of self.old) }
         ensures pairs { pairs_of self.new ≡ without name.bytes (pairs_of self.old) }
-        ensures rows { self.new.rows ≡ self.old.rows }
         ensures len { vec_len self.new.area ≡ vec_len self.old.area }
     {
         let Some((at, _)) = self.find(name) else {
@@ -40,7 +39,6 @@ impl LogStore {
         ensures marks { records_of self.new ≡ with_room (vec_len self.old.area) n (records_of self.old) }
         ensures pairs { pairs_of self.new ≡ pairs_of self.old }
         ensures room { length (pairs_of self.old) < self.old.rows → n ≤ slot_size → self.new.end + n ≤ vec_len self.new.area }
-        ensures rows { self.new.rows ≡ self.old.rows }
         ensures len { vec_len self.new.area ≡ vec_len self.old.area }
     {
         if n > self.area.len() - self.end {
@@ -55,7 +53,6 @@ impl LogStore {
         ensures outcome { answer result ≡ lay_number (vec_len self.old.area) self.old.end (length content.now) }
         ensures marks { records_of self.new ≡ (if nat_eq (answer result) 0 then records_of self.old ++ laid name.bytes content.now ∷ [] else records_of self.old) }
         ensures pairs { pairs_of self.new ≡ (if nat_eq (answer result) 0 then pairs_of self.old ++ pair name.bytes content.now ∷ [] else pairs_of self.old) }
-        ensures rows { self.new.rows ≡ self.old.rows }
         ensures len { vec_len self.new.area ≡ vec_len self.old.area }
     {
         write(&mut self.area, self.end, name, content)?;

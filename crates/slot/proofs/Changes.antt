@@ -1,15 +1,14 @@
 -- What a write into one slot leaves of the pairs.
 use Rattle.std.proofs.Common.{◌≡◌, ℕ, zero, suc, ◌+◌, ◌-◌, ◌*◌, ◌<◌, ◌≤◌, true, false, cond, ◌||◌, eqb, ltb, leb, ◌≢◌, List, [], ◌∷◌, ◌++◌, length, get_or, take, drop, set, is_some, Some, sym, refl, ap, ◌∙◌, subst, inl, inr, ⊎_elim, add-zero, arith, length-append}
-use Rattle.std.specs.Str.{bytes_eq}
-use Rattle.std.proofs.lemmas.Bool.{cases_lt, cases_eq, and_parts, or_left, or_right, lt-ltb, le-leb, le-ltb}
+use Rattle.std.proofs.lemmas.Bool.{cases_lt, cases_eq, or_left, or_right, lt-ltb, le-leb, le-ltb}
 use Rattle.std.proofs.lemmas.List.{get_or-set_same, get_or-set_other, set_past, get_or_past, take-take, drop-drop, drop_at, length-take-le, take-set-le, drop-set-lt, take_at, take-append-drop}
 use Rattle.std.proofs.lemmas.Slice.{between_is}
 use Rattle.std.proofs.lemmas.List.Edits.{get_or-between, paste_all, drop-paste}
 use Rattle.store.specs.Says.{PutSays, put_pairs}
 use Rattle.store.specs.Pairs.{Pair, pair, lookup, has, without, once, SamePairs}
-use Rattle.store.proofs.Pairs.{by_test, same_is, put_over, put-new, once_out, without_at, lookup-at}
-use Rattle.area.specs.Layout.{longest, rows_of, slot_size, laid, lay_number, live, key, content, holds, held, written}
-use Rattle.area.proofs.Records.{held-laid, length-laid}
+use Rattle.store.proofs.Pairs.{by_test, put_over, put-new, once_out, without_at, lookup-at}
+use Rattle.area.specs.Layout.{longest, rows_of, slot_size, laid, lay_number, live, content, held, written}
+use Rattle.area.proofs.Records.{held_of, held-laid, length-laid}
 use Rattle.slot.specs.Slots.{slot, gather, slot_pairs, cleared, SlotOf, SlotFor}
 use Rattle.slot.proofs.Gathered.{gather-at, gather-same, length-gather}
 
@@ -78,13 +77,6 @@ module _ (xs ys : List ℕ) (i : ℕ) (front : take (i * slot_size) ys ≡ take 
       ∙ (λ j.
       gather-same f g 0 i (λ k l u. ap held (below k (omega arith))) j
       ++ (held (slot ys i) ++ gather-same f g (suc i) (n - suc i) (λ k l u. ap held (above k (omega arith))) j))
-
--- the pair of a slot that holds the name
-held_of : (p q : List ℕ) → holds p q ≡ true → held p ≡ pair q (content p) ∷ []
-held_of p q h =
-    let parts = and_parts (live p) (bytes_eq (key p) q) h in
-    let l : live p ≡ true = parts.0 in
-    simp l (ap (λ (x : List ℕ). pair x (content p) ∷ []) (same_is (key p) q parts.1))
 
 module _ (n : ℕ) (xs q : List ℕ) (i : ℕ) where
   pub pairs_at : i < n → slot_pairs n xs ≡ slot_pairs i xs ++ (held (slot xs i) ++ gather (λ k. held (slot xs k)) (suc i) (n - suc i))

@@ -10,8 +10,9 @@ use Rattle.std.specs.Option.{option_map}
 use Rattle.store.specs.Pairs.{has, lookup}
 use Rattle.store.proofs.Pairs.{none_from}
 use Rattle.area.specs.Layout.{slot_size, rows_of, live, content, holds, held}
+use Rattle.area.proofs.Records.{has-held}
 use Rattle.slot.specs.Slots.{slot, slot_pairs, SlotOf, SlotFor}
-use Rattle.slot.proofs.Gathered.{has-held, has_more, length-held, length_more}
+use Rattle.slot.proofs.Gathered.{has_more, length-held, length_more}
 use Rattle.slot.proofs.Changes.{found}
 
 -- the first n slots

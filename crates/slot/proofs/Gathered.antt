@@ -1,11 +1,10 @@
 -- What places give, one behind the other.
 use Rattle.std.proofs.Common.{◌≡◌, ℕ, zero, suc, ◌+◌, ◌-◌, ◌<◌, ◌≤◌, true, false, List, ◌++◌, length, sym, refl, ap, ◌∙◌, append_assoc, add-zero, suc-add, zero-add, arith, length-append}
 use Rattle.std.proofs.lemmas.List.{append-nil}
-use Rattle.std.specs.Str.{bytes_eq}
 use Rattle.std.proofs.lemmas.Bool.{or_from}
 use Rattle.store.specs.Pairs.{Pair, has}
-use Rattle.store.proofs.Pairs.{by_test, has-append}
-use Rattle.area.specs.Layout.{live, key, holds, held}
+use Rattle.store.proofs.Pairs.{has-append}
+use Rattle.area.specs.Layout.{live, held}
 use Rattle.slot.specs.Slots.{gather}
 
 pub gather-split : (f : ℕ → List Pair) (a b m : ℕ) → gather f a (b + m) ≡ gather f a b ++ gather f (a + b) m
@@ -37,9 +36,6 @@ gather-at f n i h =
 pub length-gather : (f : ℕ → List Pair) (a n : ℕ) → ((k : ℕ) → length (f k) ≤ 1) → length (gather f a n) ≤ n
 length-gather f a zero h = omega arith
 length-gather f a (suc n) h = let rest = length-gather f (suc a) n h in let here = h a in simp length-append (omega arith)
-
-pub has-held : (p q : List ℕ) → holds p q ≡ false → has (held p) q ≡ false
-has-held p q h = by_test (live p) (λ e. let apart : bytes_eq (key p) q ≡ false = simp e at h in simp (e, apart)) (λ e. simp e)
 
 pub has_more : (f : ℕ → List Pair) (i : ℕ) (q : List ℕ) → has (gather f 0 i) q ≡ false → has (f i) q ≡ false → has (gather f 0 (i + 1)) q ≡ false
 has_more f i q h e = ap (λ (x : List Pair). has x q) (gather-more f i) ∙ has-append (gather f 0 i) (f i) q ∙ or_from (has (gather f 0 i) q) (has (f i) q) h e

@@ -7,6 +7,7 @@ ghost use Rattle.slot.specs.Slots.{slot_pairs};
 #[derive(Drop)]
 pub struct SlotStore {
     pub(crate) area: Vec<u8>,
+    // kept as a field: clauses and searches name it, where the number worked out of the area's length is no plainer
     pub(crate) rows: usize,
     ghost counted: { rows ≡ rows_of (vec_len area) },
     ghost apart: { once (slot_pairs rows area.items) ≡ true },

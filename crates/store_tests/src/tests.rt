@@ -88,21 +88,29 @@ fn answers<S: Store>(rt: &HostRuntime, store: &mut S, script: &str) -> Result<St
     Ok(text)
 }
 
+// Runs a script over one store, and expects these answers.
+fn expects<S: Store>(
+    rt: &HostRuntime,
+    store: &mut S,
+    script: &str,
+    expected: &str,
+    what: &str,
+) -> Result<(), Fail> {
+    let text = answers(rt, store, script)?;
+    check_text(text.as_str(), expected, what)
+}
+
 // Runs a script over every kind of store in areas full of ones, and expects the same answers of each.
 fn every(rt: &HostRuntime, length: usize, script: &str, expected: &str) -> Result<(), Fail> {
     let area = vec![in rt.alloc(); 1u8; length]?;
     let mut slots = SlotStore::open(area);
-    let text = answers(rt, &mut slots, script)?;
-    check_text(text.as_str(), expected, "slot")?;
+    expects(rt, &mut slots, script, expected, "slot")?;
     let mut log = LogStore::open(slots.close());
-    let text = answers(rt, &mut log, script)?;
-    check_text(text.as_str(), expected, "log")?;
+    expects(rt, &mut log, script, expected, "log")?;
     let mut cache = Cache::open(rt.alloc(), SlotStore::open(log.close()))?;
-    let text = answers(rt, &mut cache, script)?;
-    check_text(text.as_str(), expected, "cache over slots")?;
+    expects(rt, &mut cache, script, expected, "cache over slots")?;
     let mut cache = Cache::open(rt.alloc(), LogStore::open(cache.close().close()))?;
-    let text = answers(rt, &mut cache, script)?;
-    check_text(text.as_str(), expected, "cache over a log")
+    expects(rt, &mut cache, script, expected, "cache over a log")
 }
 
 // Where the records of a log lie after a script.

@@ -5,7 +5,7 @@ use Rattle.store.specs.Says.{PutSays}
 use Rattle.area.specs.Layout.{laid}
 use Rattle.log_store.specs.Chain.{with_room, marked, log_put}
 use Rattle.log_store.specs.Kept.{records_of, pairs_of}
-use Rattle.log_store.proofs.Marks.{row-left, put_goes, lay_done}
+use Rattle.log_store.proofs.Marks.{same_rows, row-left, put_goes, lay_done}
 use Rattle.log_store.proofs.keep.LogStoreStore.put.Goals as goal
 
 pub append-requires : goal.append-requires
@@ -17,7 +17,7 @@ append-requires c =
     let left = row-left ps q s.rows s.apart s.few open_row in
     let gone = c.end_pair.ensures.pairs in
     let same = c.make_room.ensures.pairs in
-    let rows = c.make_room.ensures.rows ∙ c.end_pair.ensures.rows in
+    let rows = same_rows s c.make_room.new.self (c.make_room.ensures.len ∙ c.end_pair.ensures.len) in
     record {
       fresh = ap (λ (x : List Pair). has x q) (same ∙ gone) ∙ left.0;
       row = (let e = ap length (same ∙ gone) in let l = left.1 in omega arith);
@@ -34,7 +34,7 @@ returns c =
     let open_row : (leb s.rows (length ps) && not (has ps q)) ≡ false = sym c.is_full_for.ensures ∙ c.if-is_full_for.false in
     let left = row-left ps q s.rows s.apart s.few open_row in
     let gone = c.end_pair.ensures.pairs in
-    let rows : c.end_pair.new.self.rows ≡ s.rows = c.end_pair.ensures.rows in
+    let rows : c.end_pair.new.self.rows ≡ s.rows = same_rows s c.end_pair.new.self c.end_pair.ensures.len in
     let fewer : length (pairs_of c.end_pair.new.self) < c.end_pair.new.self.rows = let e = ap length gone in let l = left.1 in omega arith in
     let done : answer c.append.result ≡ 0 = c.append.ensures.outcome ∙ lay_done (vec_len c.make_room.new.self.area) c.make_room.new.self.end (length bs) short (c.make_room.ensures.room fewer (omega arith)) in
     let after : pairs_of c.append.new.self ≡ without q ps ++ pair q bs ∷ [] =
@@ -46,6 +46,6 @@ returns c =
     ∙ ap (λ (x : List (List ℕ)). x ++ laid q bs ∷ []) room in
     record {
       says = subst (λ (m : ℕ). PutSays 1896 s.rows ps (pairs_of c.append.new.self) q bs m) (sym done) (put_goes ps (pairs_of c.append.new.self) q bs s.rows s.apart open_row short after);
-      rows = c.append.ensures.rows ∙ c.make_room.ensures.rows ∙ c.end_pair.ensures.rows;
+      rows = same_rows s c.append.new.self (c.append.ensures.len ∙ c.make_room.ensures.len ∙ c.end_pair.ensures.len);
       lie = lie ∙ sym (ap (λ (m : ℕ). cond (eqb m 0) (log_put whole (records_of s) q bs) (records_of s)) done);
     }

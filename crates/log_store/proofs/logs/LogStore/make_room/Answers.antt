@@ -42,7 +42,6 @@ returns-then-n-len c =
       marks = made.marks;
       pairs = made.pairs;
       room = λ few short. let fits = slid_fits s.rows (vec_len s.area) c.args.n s.end c.slide-self.result xs room s.good c.slide-self.ensures.end few short in omega arith;
-      rows = refl;
       len = l;
     }
 
@@ -55,4 +54,4 @@ returns-else-n-len c =
     let within : s.end ≤ length xs = omega arith in
     let fits : s.end + c.args.n ≤ vec_len s.area = omega arith in
     let made = roomy_as_is (vec_len s.area) c.args.n s.end xs within s.good fits in
-    record { marks = made.marks; pairs = refl; room = λ few short. fits; rows = refl; len = refl }
+    record { marks = made.marks; pairs = refl; room = λ few short. fits; len = refl }
