@@ -58,6 +58,7 @@ fn none(rt: &HostRuntime, path: &str, refusal: Refusal, what: &'static str) -> a
     Err(anyhow!("{what}"))
 }
 
+// Kept beside the next, which differs in the type: a trait for the two would be longer than both.
 fn image(rt: &HostRuntime, path: &str) -> anyhow::Result<()> {
     let bytes = files::bytes(rt, path)?;
     let mut found = Image::open(rt.alloc())?;
