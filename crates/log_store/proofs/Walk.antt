@@ -3,11 +3,11 @@ use Rattle.std.proofs.Common.{◌≡◌, ℕ, zero, suc, ◌+◌, ◌-◌, ◌<�
 use Rattle.std.proofs.lemmas.Bool.{cases_lt, eqb-false}
 use Rattle.std.proofs.lemmas.List.{take_all, take_rest, drop-drop, length-take-le, nil_from_length, append-nil}
 use Rattle.std.specs.Option.{option_map}
-use Rattle.std.specs.List.{find, filter}
+use Rattle.std.specs.List.{find}
 use denote.Ref.{Bor}
 use Rattle.store.specs.Pairs.{Pair, lookup, has}
 use Rattle.store.proofs.Pairs.{by_test, none_from, lookup-at}
-use Rattle.area.specs.Layout.{header_size, size, live, content, holds}
+use Rattle.area.specs.Layout.{header_size, size, content, holds}
 use Rattle.log_store.specs.Chain.{chain, records, placed, bytes_of, log_pairs, PlaceOf}
 use Rattle.area.proofs.Records.{held_of}
 use Rattle.log_store.proofs.Chained.{bytes_more, pairs_append, has-next}
@@ -50,20 +50,6 @@ module _ (xs : List ℕ) (at n : ℕ) (more : eqb (length (take (length xs - at)
       let some : 0 < length (drop at xs) = (let ne = eqb-false (length (take (length xs - at) (drop at xs))) 0 more in let same = ap length rest in omega arith) in
       step_of (drop at xs) at n some (is ∙ ap (λ (ys : List ℕ). min (length ys) (header_size + size ys)) rest)
       ∙ (λ i. (at, take n (sym rest i)) ∷ placed (at + n) (records (drop-drop n at xs i)))
-
--- no more records than bytes
-pub records_few : (at n : ℕ) (bs : List ℕ) → length (placed at (chain n bs)) ≤ n
-records_few at zero bs = omega arith
-records_few at (suc n) [] = omega arith
-records_few at (suc n) (b ∷ bs) =
-    let k : ℕ = header_size + size (b ∷ bs) in
-    let rest = records_few (at + length (take k (b ∷ bs))) n (drop k (b ∷ bs)) in
-    omega arith
-
--- as many live records as pairs
-pub live_ones : (at : ℕ) (ps : List (List ℕ)) → length (filter (λ r. live r.1) (placed at ps)) ≡ length (log_pairs ps)
-live_ones at [] = refl
-live_ones at (p ∷ ps) = by_test (live p) (λ e. simp (e, live_ones (at + length p) ps)) (λ e. simp (e, live_ones (at + length p) ps))
 
 -- what the first record of a name among these is, and where it begins
 abbrev Found : List (List ℕ) → List ℕ → Option (ℕ × List ℕ) → Type 0

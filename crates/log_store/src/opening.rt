@@ -15,7 +15,12 @@ impl LogStore {
         ensures none { records_of result ≡ [] }
     {
         let rows = rows(area.len());
-        LogStore { area, rows, end: 0 }
+        LogStore {
+            area,
+            rows,
+            end: 0,
+            count: 0,
+        }
     }
 
     // The bytes of the area.
@@ -41,6 +46,7 @@ impl LogStore {
             area,
             rows: _,
             end: _,
+            count: _,
         } = self;
         area
     }

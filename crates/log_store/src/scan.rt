@@ -8,7 +8,7 @@ ghost use Rattle.log_store.specs.Kept.{records_of, pairs_of, records_left};
 
 use crate::logs::LogStore;
 use crate::records::Records;
-use area::record_at::{is_held, is_live};
+use area::record_at::is_held;
 use names::Name;
 
 impl LogStore {
@@ -26,7 +26,7 @@ impl LogStore {
     pub(crate) fn live(&self) -> usize
         ensures { result ≡ length (pairs_of self.now) }
     {
-        self.records().filter(|r| is_live(r.1)).count()
+        self.count
     }
 
     // The live record of a name, with the place where it begins.

@@ -31,6 +31,7 @@ impl LogStore {
             return false;
         };
         bury(&mut self.area, at);
+        self.count -= 1;
         true
     }
 
@@ -57,6 +58,7 @@ impl LogStore {
     {
         write(&mut self.area, self.end, name, content)?;
         self.end += HEADER + content.len();
+        self.count += 1;
         Ok(())
     }
 }

@@ -1,4 +1,4 @@
-use Rattle.std.proofs.Common.{◌≡◌, ◌+◌, ◌≤◌, length, take, vec_items, vec_len, sym, ap, ◌∙◌, arith}
+use Rattle.std.proofs.Common.{◌≡◌, ℕ, ◌+◌, ◌≤◌, length, take, vec_items, vec_len, sym, ap, ◌∙◌, arith}
 use Rattle.names.proofs.Spelled.{padded_eight}
 use Rattle.store.specs.Pairs.{once}
 use Rattle.area.specs.Layout.{rows_of}
@@ -26,6 +26,7 @@ invariant_of-self-2 c =
       inside = inside;
       good = made.good;
       apart = ap once made.pairs ∙ once_more (log_pairs (records (take s.end xs))) q bs s.apart c.requires.fresh;
+      number = ap (λ (k : ℕ). k + 1) s.number ∙ sym m ∙ ap length (sym made.pairs);
       few = (let e = ap length made.pairs in omega arith);
     }
 

@@ -22,6 +22,7 @@ invariant_of-self c =
       inside = inside;
       good = made.good;
       apart = ap once made.pairs ∙ s.apart;
+      number = s.number ∙ ap length (sym made.pairs);
       few = (let f = s.few in let e = ap length made.pairs in omega arith);
     }
 
