@@ -18,7 +18,10 @@ fn uncommented(line: &[u8]) -> &[u8]
 pub fn word(line: &[u8], place: usize) -> Option<&[u8]>
     ensures { option_map (λ x. x.now) result ≡ slice_get (words line.now) place }
 {
-    uncommented(line)
+    let code = uncommented(line);
+    // spaces in front are passed over at once, and a line without a word ends here: parting it at each space takes longer
+    let first = code.iter().position(|b| *b != b' ')?;
+    code[first..]
         .split(|b| *b == b' ')
         .filter(|word| !word.is_empty())
         .nth(place)
