@@ -1,7 +1,8 @@
 // Names that are declared.
-ghost use Rattle.std.specs.Prelude.{◌≡◌, ◌≤◌, length};
+ghost use Rattle.std.specs.Prelude.{◌≡◌, ◌≤◌, length, count_by};
 ghost use Rattle.std.specs.Result.{result_err};
-ghost use Rattle.scope.specs.Names.{reserved, declared, ill_named, misnamed, named, is_constant, functions_before, entry_of};
+ghost use Rattle.grammar.specs.Line.{is_function};
+ghost use Rattle.scope.specs.Names.{reserved, declared, ill_named, misnamed, named, is_constant, entry_of};
 
 use grammar::{CONST, Declaration, FORMULA, FUN, Flaw, Kind, X};
 use names::{Fault, Name};
@@ -56,23 +57,24 @@ pub fn is_constant(name: &Name, declarations: &[Declaration]) -> bool
     find(name, declarations).is_some_and(|d| d.kind == Kind::Constant)
 }
 
-// How many functions stand before the first declaration of a name.
-fn functions_before(name: &Name, declarations: &[Declaration]) -> usize
-    ensures { result ≡ functions_before name.now.bytes declarations.now }
+// How many of these are functions.
+fn functions_among(declarations: &[Declaration]) -> usize
+    ensures { result ≡ count_by (λ d. is_function d.kind) declarations.now }
 {
     declarations
         .iter()
-        .take_while(|d| d.name != *name)
         .filter(|d| d.kind == Kind::Function)
         .count()
 }
 
-// The number of the function of that name.
+// The number of the function of that name: how many functions stand before it, where it is one.
 pub fn entry_of(name: &Name, declarations: &[Declaration]) -> Option<usize>
     ensures { result ≡ entry_of name.now.bytes declarations.now }
 {
-    match find(name, declarations)?.kind {
+    // the declarations before it are told by their kinds alone, so that no name is compared twice
+    let i = declarations.iter().position(|d| d.name == *name)?;
+    match declarations[i].kind {
         Kind::Constant => None,
-        Kind::Function => Some(functions_before(name, declarations)),
+        Kind::Function => Some(functions_among(&declarations[..i])),
     }
 }
